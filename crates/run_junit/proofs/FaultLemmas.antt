@@ -1,5 +1,5 @@
 -- The finishes that the statistics count as failed.
-use Rattle.std.proofs.Common.{◌≡◌, ℕ, zero, suc, ◌+◌, ◌-◌, Bool, true, false, not, if◌then◌else◌, cond, nat_lt, List}
+use Rattle.std.proofs.Common.{◌≡◌, ℕ, suc, ◌+◌, ◌-◌, Bool, true, false, not, if◌then◌else◌, cond, nat_lt, List}
 use Rattle.std.proofs.Common.{[], ◌∷◌, length, map, slice_get, Option, Some, None, refl, sym, ap, ◌∙◌, arith}
 use Rattle.std.proofs.lemmas.List.{length-map}
 use Rattle.std.proofs.lemmas.List.Sums.{sum_by-cons}
@@ -20,25 +20,27 @@ use Rattle.run_junit.specs.declared.case.Ended.{Ended}
 use Rattle.run_junit.specs.declared.case.Ended.TheVariants as ends
 use Rattle.run_junit.specs.declared.reason.Fault.{Fault}
 use Rattle.run_junit.specs.declared.reason.Fault.TheVariants as faults
-use Rattle.run_junit.specs.Cases.{ended_by, last_result, main_by}
-use Rattle.run_junit.specs.Laws.{FaultsAreCounted, failed_by, failed_scripts, failed_tests, is_fault}
-use Rattle.run_junit.specs.Reasons.{fault_of}
-use Rattle.run_junit.specs.Suites.{Finish, counts_of, fault_by, fault_in, is_error, is_failure, script, test}
+use Rattle.run_junit.specs.Cases.{ended_test, result_of_last, main_by}
+use Rattle.run_junit.specs.Laws.{FaultsAreCounted, failed_by, failed_scripts, failed_tests, is_counted_fault}
+use Rattle.run_junit.specs.Reasons.{fault_by_result}
+use Rattle.run_junit.specs.Suites.{Finish, counts_of, fault_by, fault_counted, counts_as_error, counts_as_failure}
+use Rattle.run_junit.specs.Suites.{script, test}
 use Rattle.run_junit.specs.Suites.{test_fault}
 
-fault_one : (o : Option Fault) → cond (is_failure o) 1 0 + cond (is_error o) 1 0 ≡ cond (is_fault o) 1 0
+fault_one : (o : Option Fault)
+    → cond (counts_as_failure o) 1 0 + cond (counts_as_error o) 1 0 ≡ cond (is_counted_fault o) 1 0
 fault_one None = refl
 fault_one (Some faults.Failure) = refl
 fault_one (Some faults.Error) = refl
 
 all_faults : (xs : List Finish)
-    → (counts_of xs).failures + (counts_of xs).errors ≡ count_by (λ x. is_fault (fault_in x)) xs
+    → (counts_of xs).failures + (counts_of xs).errors ≡ count_by (λ x. is_counted_fault (fault_counted x)) xs
 all_faults [] = refl
 all_faults (x ∷ xs) =
-    let failures = sum_by-cons (λ (y : Finish). cond (is_failure (fault_in y)) 1 0) x xs in
-    let errors = sum_by-cons (λ (y : Finish). cond (is_error (fault_in y)) 1 0) x xs in
-    let all = sum_by-cons (λ (y : Finish). cond (is_fault (fault_in y)) 1 0) x xs in
-    let here = fault_one (fault_in x) in
+    let failures = sum_by-cons (λ (y : Finish). cond (counts_as_failure (fault_counted y)) 1 0) x xs in
+    let errors = sum_by-cons (λ (y : Finish). cond (counts_as_error (fault_counted y)) 1 0) x xs in
+    let all = sum_by-cons (λ (y : Finish). cond (is_counted_fault (fault_counted y)) 1 0) x xs in
+    let here = fault_one (fault_counted x) in
     let rest = all_faults xs in
     omega (arith, failures, errors, all, here, rest)
 
@@ -79,10 +81,10 @@ result_fails flakies.Pass retried slow (results.Timeout timeouts.Fail) = refl
 
 -- of a test with attempts
 main_fault : (ended : Ended) (f : TestFinish) (first last : ExecuteStatus) → slice_get f.statuses 0 ≡ Some first
-    → last_attempt f ≡ Some last → is_fault (fault_by ended (main_by ended f)) ≡ is_failed ended
-main_fault ends.Passed f first last begins is = ap (λ o. is_fault (fault_by ends.Passed o)) is
-main_fault ends.FlakyFailed f first last begins is = ap (λ o. is_fault (fault_by ends.FlakyFailed o)) is
-main_fault ends.Failed f first last begins is = ap (λ o. is_fault (fault_by ends.Failed o)) begins
+    → last_attempt f ≡ Some last → is_counted_fault (fault_by ended (main_by ended f)) ≡ is_failed ended
+main_fault ends.Passed f first last begins is = ap (λ o. is_counted_fault (fault_by ends.Passed o)) is
+main_fault ends.FlakyFailed f first last begins is = ap (λ o. is_counted_fault (fault_by ends.FlakyFailed o)) is
+main_fault ends.Failed f first last begins is = ap (λ o. is_counted_fault (fault_by ends.Failed o)) begins
 
 last_is : (s : ExecuteStatus) (ss : List ExecuteStatus)
     → slice_get (s ∷ ss) (length (s ∷ ss) - 1) ≡ Some (last_or s ss)
@@ -97,7 +99,7 @@ last_result_is s [] = refl
 last_result_is s (t ∷ ts) = last_result_is t ts
 
 each_test : (slow : Bool) (unit : TestUnit) (flaky : FlakyResult) (xs : List ExecuteStatus)
-    → one_if (is_fault (test_fault (record { test = unit; statuses = xs; flaky = flaky })))
+    → one_if (is_counted_fault (test_fault (record { test = unit; statuses = xs; flaky = flaky })))
     ≡ failed_by slow (test (record { test = unit; statuses = xs; flaky = flaky }))
 unfolding adds_of
 each_test slow unit flakies.Fail [] = refl
@@ -107,7 +109,8 @@ each_test slow unit flaky (s ∷ ss) =
     let last = last_or s ss in
     let is = last_is s ss in
     let retried = nat_lt 1 (length (s ∷ ss)) in
-    ap (λ o. one_if (is_fault (fault_by (ended_by f (last_result o)) (main_by (ended_by f (last_result o)) f)))) is
+    ap (λ o. one_if (is_counted_fault (fault_by (ended_test f (result_of_last o))
+    (main_by (ended_test f (result_of_last o)) f)))) is
     ∙ ap one_if (main_fault (ended_so flaky retried last.result) f s last refl is)
     ∙ result_fails flaky retried slow last.result
     ∙ ap (λ (n : ℕ). failed_tests (test_adds flaky (nat_lt 1 n) slow last.result))
@@ -116,7 +119,8 @@ each_test slow unit flaky (s ∷ ss) =
     (nat_lt 1 (length (map (λ (t : ExecuteStatus). t.result) (s ∷ ss)))) slow r)) (sym (last_result_is s ss))
 
 script_fails : (r : ExecutionResult)
-    → one_if (is_fault (if is_success r then None else Some (fault_of r))) ≡ failed_scripts (script_adds r)
+    → one_if (is_counted_fault (if is_success r then None else Some (fault_by_result r)))
+    ≡ failed_scripts (script_adds r)
 script_fails results.Pass = refl
 script_fails (results.Leak leaks.Pass) = refl
 script_fails (results.Leak leaks.Fail) = refl
@@ -125,7 +129,7 @@ script_fails results.ExecFail = refl
 script_fails (results.Timeout timeouts.Pass) = refl
 script_fails (results.Timeout timeouts.Fail) = refl
 
-each_fault : (slow : Bool) (x : Finish) → one_if (is_fault (fault_in x)) ≡ failed_by slow x
+each_fault : (slow : Bool) (x : Finish) → one_if (is_counted_fault (fault_counted x)) ≡ failed_by slow x
 each_fault slow (test f) = each_test slow f.test f.flaky f.statuses
 each_fault slow (script f) = script_fails f.status.result
 

@@ -1,6 +1,6 @@
 -- No text is read as the form of a document, and all its characters are of XML 1.0.
-use Rattle.std.proofs.Common.{◌≡◌, ℕ, zero, suc, ◌<◌, ◌≤◌, ◌==◌, Bool, true, false, not, ◌&&◌, if◌then◌else◌, cond}
-use Rattle.std.proofs.Common.{nat_lt, List, [], ◌∷◌, ◌++◌, length, refl, sym, ap, ◌∙◌, subst, arith, append-nil, codes}
+use Rattle.std.proofs.Common.{◌≡◌, ℕ, zero, suc, ◌<◌, ◌==◌, Bool, true, false, not, ◌&&◌, if◌then◌else◌}
+use Rattle.std.proofs.Common.{nat_lt, List, [], ◌∷◌, ◌++◌, length, refl, ap, ◌∙◌, subst, arith, append-nil, codes}
 use Rattle.std.proofs.Math.Utf8.{encode, encodes}
 use Rattle.std.proofs.lemmas.Bool.Decides.{nat_tests}
 use Rattle.std.proofs.lemmas.List.Folds.{list_all-append}
@@ -17,12 +17,13 @@ use Rattle.run_junit.specs.declared.tag.Key.{Key}
 use Rattle.run_junit.specs.declared.tag.Key.TheVariants as keys
 use Rattle.run_junit.specs.declared.tag.Tag.{Tag}
 use Rattle.run_junit.specs.declared.tag.Tag.TheVariants as tags
-use Rattle.run_junit.specs.Escape.{after, attribute_reference, attribute_text, body_reference, body_text, char_in}
-use Rattle.run_junit.specs.Escape.{is_said, is_xml, placed_char, reference, shown_char, shown_chars}
-use Rattle.run_junit.specs.Laws.{HasNone, IsEscaped, IsXmlText, NoTextIsForm, itself, nothing, referred}
+use Rattle.run_junit.specs.Escape.{sequence_after, attribute_reference, attribute_text, body_reference, body_text}
+use Rattle.run_junit.specs.Escape.{char_in}
+use Rattle.run_junit.specs.Escape.{is_said, is_xml, placed_char, reference, char_shown, shown_chars}
+use Rattle.run_junit.specs.Laws.{HasNone, IsEscapedIn, IsXmlText, NoTextIsForm, itself, nothing, referred}
 use Rattle.run_junit.specs.Tokens.{Attribute, Token, attribute_bytes, attributes_bytes, declaration, end, key_name}
 use Rattle.run_junit.specs.Tokens.{line}
-use Rattle.run_junit.specs.Tokens.{line_bytes, start, tag_name, token_bytes, tokens_bytes, written}
+use Rattle.run_junit.specs.Tokens.{new_line_bytes, start, tag_name, token_bytes, tokens_bytes, written}
 
 empty_is : (xs : List ℕ) → (length xs == 0) ≡ true → xs ≡ []
 empty_is [] e = refl
@@ -30,30 +31,30 @@ empty_is (x ∷ xs) e = absurd (grind (arith, nat_tests))
 
 -- made of references and of characters that stand for themselves
 placed_escaped : (place : Place) (c : ℕ) (rest : List ℕ) (empty : Bool) → (length (reference place c) == 0) ≡ empty
-    → IsEscaped place rest
-    → IsEscaped place ((if empty then encode c else reference place c) ++ rest)
+    → IsEscapedIn place rest
+    → IsEscapedIn place ((if empty then encode c else reference place c) ++ rest)
 placed_escaped place c rest true e is = itself c rest (empty_is (reference place c) e) is
 placed_escaped place c rest false e is = referred c rest is
 
-escaped_if : (place : Place) (b : Bool) (xs rest : List ℕ) → IsEscaped place (xs ++ rest) → IsEscaped place rest
-    → IsEscaped place ((if b then xs else []) ++ rest)
+escaped_if : (place : Place) (b : Bool) (xs rest : List ℕ) → IsEscapedIn place (xs ++ rest) → IsEscapedIn place rest
+    → IsEscapedIn place ((if b then xs else []) ++ rest)
 escaped_if place true xs rest is off = is
 escaped_if place false xs rest is off = off
 
-chars_escaped : (place : Place) (at : Sequence) (cs : List ℕ) → IsEscaped place (shown_chars place at cs)
+chars_escaped : (place : Place) (at : Sequence) (cs : List ℕ) → IsEscapedIn place (shown_chars place at cs)
 chars_escaped place at [] = nothing
 chars_escaped place at (c ∷ cs) =
-    let rest = shown_chars place (after at c) cs in
-    let later = chars_escaped place (after at c) cs in
+    let rest = shown_chars place (sequence_after at c) cs in
+    let later = chars_escaped place (sequence_after at c) cs in
     escaped_if place (is_said at c) (char_in place c) rest
     (escaped_if place (is_xml c) (placed_char place c) rest
     (placed_escaped place c rest (length (reference place c) == 0) refl later) later) later
 
-attribute_escaped : (text : List ℕ) → IsEscaped places.Attribute (attribute_text text)
+attribute_escaped : (text : List ℕ) → IsEscapedIn places.Attribute (attribute_text text)
 unfolding attribute_text
 attribute_escaped text = chars_escaped places.Attribute Outside (chars text)
 
-body_escaped : (bytes : List ℕ) → IsEscaped places.Body (body_text bytes)
+body_escaped : (bytes : List ℕ) → IsEscapedIn places.Body (body_text bytes)
 unfolding body_text
 body_escaped bytes = chars_escaped places.Body Outside (chars (utf8_lossy bytes))
 
@@ -150,10 +151,10 @@ chars_none : (place : Place) (byte : ℕ) (at : Sequence) (cs : List ℕ) → Re
     → HasNone byte (shown_chars place at cs)
 chars_none place byte at [] r = none_nil byte
 chars_none place byte at (c ∷ cs) r =
-    none_append byte (shown_char place at c) (shown_chars place (after at c) cs)
+    none_append byte (char_shown place at c) (shown_chars place (sequence_after at c) cs)
     (none_if byte (is_said at c) (char_in place c) [] (λ _. none_if byte (is_xml c) (placed_char place c) []
     (λ _. placed_none place byte c r) (λ _. none_nil byte)) (λ _. none_nil byte))
-    (chars_none place byte (after at c) cs r)
+    (chars_none place byte (sequence_after at c) cs r)
 
 body_refers : Refers places.Body 60
 body_refers = record { small = omega arith; own = refl; none = body_none }
@@ -227,11 +228,11 @@ both_true false e = cc
 chars_xml : (place : Place) (at : Sequence) (cs : List ℕ) → IsXmlText (shown_chars place at cs)
 chars_xml place at [] = xml_nil
 chars_xml place at (c ∷ cs) =
-    xml_append (shown_char place at c) (shown_chars place (after at c) cs)
+    xml_append (char_shown place at c) (shown_chars place (sequence_after at c) cs)
     (xml_if (is_said at c) (char_in place c) [] (λ _. xml_if (is_xml c) (placed_char place c) []
     (λ is. xml_if (length (reference place c) == 0) (encode c) (reference place c)
     (λ _. (c ∷ [], append-nil (encode c), both_true (is_xml c) is)) (reference_xml place c)) xml_nil) xml_nil)
-    (chars_xml place (after at c) cs)
+    (chars_xml place (sequence_after at c) cs)
 
 text_xml : (text : List ℕ) → IsXmlText (attribute_text text)
 unfolding attribute_text
@@ -285,9 +286,9 @@ attributes_xml : (said : List Attribute) → IsXmlText (attributes_bytes said)
 unfolding attributes_bytes
 attributes_xml said = flat_xml attribute_bytes said attribute_xml
 
-line_xml : (depth : ℕ) → IsXmlText (line_bytes depth)
+line_xml : (depth : ℕ) → IsXmlText (new_line_bytes depth)
 line_xml zero = form_xml _ refl refl
-line_xml (suc depth) = xml_append (line_bytes depth) (codes "    ") (line_xml depth) (form_xml _ refl refl)
+line_xml (suc depth) = xml_append (new_line_bytes depth) (codes "    ") (line_xml depth) (form_xml _ refl refl)
 
 token_xml : (token : Token) → IsXmlText (token_bytes token)
 token_xml declaration = form_xml _ refl refl

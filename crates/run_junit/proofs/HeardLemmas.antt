@@ -8,16 +8,15 @@ use Rattle.run_capture.specs.Bytes.{Takes}
 use Rattle.run_capture.specs.declared.memory.OutOfMemory.{OutOfMemory}
 use Rattle.run_events.specs.declared.events.ReporterEvent.{ReporterEvent}
 use Rattle.run_events.specs.declared.events.ReporterEvent.TheVariants.{Tick, Test}
-use Rattle.run_events.specs.declared.events.TestEvent.{TestEvent}
 use Rattle.run_junit.specs.declared.heard.Heard.{Heard}
 use Rattle.run_junit.specs.declared.suites.Counts.{Counts}
 use Rattle.run_junit.specs.declared.suites.Kept.{Kept}
-use Rattle.run_junit.specs.Document.{elapsed_after, elapsed_told, id_after, id_told, junit_text, junit_tokens, run_end}
-use Rattle.run_junit.specs.Document.{run_start, suite_end, suite_start, suite_tokens}
-use Rattle.run_junit.specs.Heard.{Remembers, case_bytes, heard_after, heard_nothing, heard_of, heard_told}
+use Rattle.run_junit.specs.Document.{elapsed_after, elapsed_last, id_after, id_told, junit_text, junit_tokens, run_end}
+use Rattle.run_junit.specs.Document.{document_open, suite_end, suite_start, suite_tokens}
+use Rattle.run_junit.specs.Heard.{Remembers, case_bytes, kept_after_event, heard_nothing, kept_of_run, heard_told}
 use Rattle.run_junit.specs.Heard.{kept_suite}
 use Rattle.run_junit.specs.Put.{cases_bytes, heard_bytes, suite_bytes, suites_bytes}
-use Rattle.run_junit.specs.Suites.{Finish, Suite, case_tokens, counts_of, finish_in, finishes_told, suites_of}
+use Rattle.run_junit.specs.Suites.{Finish, Suite, case_tokens, counts_of, unit_finish, finishes_heard, suites_of}
 use Rattle.run_junit.specs.Tokens.{Token, token_bytes, tokens_bytes}
 use Rattle.run_junit.proofs.SuiteLemmas.{counts_more, suites_more}
 use Rattle.run_junit.proofs.TokenLemmas.{tokens_join}
@@ -28,7 +27,7 @@ id_more before [] event = refl
 id_more before (first ∷ later) event = id_more (id_after before first) later event
 
 elapsed_more : (before : ℕ) (told : List ReporterEvent) (event : ReporterEvent)
-    → elapsed_told before (told ++ event ∷ []) ≡ elapsed_after (elapsed_told before told) event
+    → elapsed_last before (told ++ event ∷ []) ≡ elapsed_after (elapsed_last before told) event
 elapsed_more before [] event = refl
 elapsed_more before (first ∷ later) event = elapsed_more (elapsed_after before first) later event
 
@@ -57,28 +56,28 @@ told_more started id elapsed xs (Some x) =
     same_heard id elapsed _ _ _ _ (sym (counts_more xs x)) (suites_more started xs x)
 
 told_by : (started : Option ℕ) (told : List ReporterEvent) (event : ReporterEvent)
-    → heard_by started (id_after (id_told [] told) event) (elapsed_after (elapsed_told 0 told) event)
-    (finishes_told told ++ cons_option (finish_in event) [])
-    ≡ heard_by started (id_told [] (told ++ event ∷ [])) (elapsed_told 0 (told ++ event ∷ []))
-    (finishes_told (told ++ event ∷ []))
+    → heard_by started (id_after (id_told [] told) event) (elapsed_after (elapsed_last 0 told) event)
+    (finishes_heard told ++ cons_option (unit_finish event) [])
+    ≡ heard_by started (id_told [] (told ++ event ∷ [])) (elapsed_last 0 (told ++ event ∷ []))
+    (finishes_heard (told ++ event ∷ []))
 told_by started told event =
-    ap (λ id. heard_by started id (elapsed_after (elapsed_told 0 told) event)
-    (finishes_told told ++ cons_option (finish_in event) [])) (sym (id_more [] told event))
+    ap (λ id. heard_by started id (elapsed_after (elapsed_last 0 told) event)
+    (finishes_heard told ++ cons_option (unit_finish event) [])) (sym (id_more [] told event))
     ∙ ap (λ (n : ℕ). heard_by started (id_told [] (told ++ event ∷ [])) n
-    (finishes_told told ++ cons_option (finish_in event) [])) (sym (elapsed_more 0 told event))
-    ∙ ap (heard_by started (id_told [] (told ++ event ∷ [])) (elapsed_told 0 (told ++ event ∷ [])))
-    (sym (filter_map-append finish_in told (event ∷ [])))
+    (finishes_heard told ++ cons_option (unit_finish event) [])) (sym (elapsed_more 0 told event))
+    ∙ ap (heard_by started (id_told [] (told ++ event ∷ [])) (elapsed_last 0 (told ++ event ∷ [])))
+    (sym (filter_map-append unit_finish told (event ∷ [])))
 
 -- what is kept of one event more
 pub heard_more : (started : Option ℕ) (told : List ReporterEvent) (event : ReporterEvent)
-    → heard_after started (heard_of started told) event ≡ heard_of started (told ++ event ∷ [])
-unfolding heard_of heard_by
+    → kept_after_event started (kept_of_run started told) event ≡ kept_of_run started (told ++ event ∷ [])
+unfolding kept_of_run heard_by
 heard_more started told Tick =
-    ap (heard_by started (id_told [] told) (elapsed_told 0 told)) (sym (append-nil (finishes_told told)))
+    ap (heard_by started (id_told [] told) (elapsed_last 0 told)) (sym (append-nil (finishes_heard told)))
     ∙ told_by started told Tick
 heard_more started told (Test event) =
-    told_more started (id_after (id_told [] told) (Test event)) (elapsed_after (elapsed_told 0 told) (Test event))
-    (finishes_told told) (finish_in (Test event))
+    told_more started (id_after (id_told [] told) (Test event)) (elapsed_after (elapsed_last 0 told) (Test event))
+    (finishes_heard told) (unit_finish (Test event))
     ∙ told_by started told (Test event)
 
 -- the cases of a suite, as they are written
@@ -116,17 +115,17 @@ suites_written started (suite ∷ suites) =
 
 -- what is kept of events, as it is written, is their document
 pub heard_written : (started : Option ℕ) (told : List ReporterEvent)
-    → heard_bytes started (heard_of started told) ≡ junit_text started told
-unfolding heard_of junit_tokens
+    → heard_bytes started (kept_of_run started told) ≡ junit_text started told
+unfolding kept_of_run junit_tokens
 heard_written started told =
-    let xs = finishes_told told in
-    let first = run_start started (counts_of xs) (id_told [] told) (elapsed_told 0 told) in
+    let xs = finishes_heard told in
+    let first = document_open started (counts_of xs) (id_told [] told) (elapsed_last 0 told) in
     ap (λ bytes. tokens_bytes first ++ (bytes ++ tokens_bytes run_end)) (suites_written started (suites_of xs))
     ∙ three_join first (flat_map (suite_tokens started) (suites_of xs)) run_end
 
 -- nothing is kept of no events
-nothing_heard : (started : Option ℕ) → heard_nothing ≡ heard_of started []
-unfolding heard_of suites_of
+nothing_heard : (started : Option ℕ) → heard_nothing ≡ kept_of_run started []
+unfolding kept_of_run suites_of
 nothing_heard started = refl
 
 pub remembers_first : (started : Option ℕ) (r : Result Heard OutOfMemory) → IfOk r (λ heard. heard ≡ heard_nothing)
@@ -136,7 +135,7 @@ remembers_first started (Err e) first = first
 
 -- what was written of what is kept is the document
 pub written_heard : {T E : Type 0} (started : Option ℕ) (heard : Heard) (told : List ReporterEvent)
-    (before now : Option (List ℕ)) (r : Result T E) → heard ≡ heard_of started told
+    (before now : Option (List ℕ)) (r : Result T E) → heard ≡ kept_of_run started told
     → OnOk r (Takes before now (heard_bytes started heard)) → OnOk r (Takes before now (junit_text started told))
 written_heard started heard told before now (Ok _) same taken =
     subst (λ (text : List ℕ). Takes before now text)

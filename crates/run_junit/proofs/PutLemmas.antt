@@ -16,7 +16,7 @@ use Rattle.run_capture.proofs.BytesLemmas.{takes_both}
 use Rattle.run_capture.specs.Bytes.{Takes}
 use Rattle.run_junit.specs.declared.escape.Place.TheVariants.{Body}
 use Rattle.run_junit.specs.declared.escape.Sequence.{Sequence}
-use Rattle.run_junit.specs.Escape.{after_all, shown_char, shown_chars}
+use Rattle.run_junit.specs.Escape.{after_all, char_shown, shown_chars}
 use Rattle.run_junit.specs.Put.{Puts, chunk_text}
 use Rattle.run_junit.proofs.EscapeLemmas.{after-append, shown-append, shown_more}
 
@@ -92,12 +92,12 @@ puts_item f xs i item first next last x y z below same p q =
 -- characters of an output, and one more
 pub puts_char : (at now : Sequence) (cs : List ℕ) (c : ℕ) (first next last : Option (List ℕ)) (x y z : List ℕ)
     → now ≡ after_all at cs → Puts first next x y (shown_chars Body at cs)
-    → Puts next last y z (shown_char Body now c) → Puts first last x z (shown_chars Body at (cs ++ c ∷ []))
+    → Puts next last y z (char_shown Body now c) → Puts first last x z (shown_chars Body at (cs ++ c ∷ []))
 puts_char at now cs c first next last x y z same p q =
-    puts_same first last x z (shown_chars Body at cs ++ shown_char Body now c) (shown_chars Body at (cs ++ c ∷ []))
-    (shown_more Body at cs c now [] (shown_chars Body at cs) (shown_chars Body at cs ++ shown_char Body now c) refl same
+    puts_same first last x z (shown_chars Body at cs ++ char_shown Body now c) (shown_chars Body at (cs ++ c ∷ []))
+    (shown_more Body at cs c now [] (shown_chars Body at cs) (shown_chars Body at cs ++ char_shown Body now c) refl same
     refl)
-    (puts_two first next last x y z (shown_chars Body at cs) (shown_char Body now c) p q)
+    (puts_two first next last x y z (shown_chars Body at cs) (char_shown Body now c) p q)
 
 -- a text of an output, and another
 shown_both : (at now : Sequence) (xs ys : List ℕ) → IsUtf8 xs → now ≡ after_all at (chars xs)
@@ -109,7 +109,8 @@ shown_both at now xs ys text same =
 
 pub puts_texts : (at now : Sequence) (xs ys : List ℕ) (first next last : Option (List ℕ)) (x y z : List ℕ) → IsUtf8 xs
     → now ≡ after_all at (chars xs) → Puts first next x y (shown_chars Body at (chars xs))
-    → Puts next last y z (shown_chars Body now (chars ys)) → Puts first last x z (shown_chars Body at (chars (xs ++ ys)))
+    → Puts next last y z (shown_chars Body now (chars ys))
+    → Puts first last x z (shown_chars Body at (chars (xs ++ ys)))
 puts_texts at now xs ys first next last x y z text same p q =
     puts_same first last x z _ _ (shown_both at now xs ys text same)
     (puts_two first next last x y z (shown_chars Body at (chars xs)) (shown_chars Body now (chars ys)) p q)

@@ -7,7 +7,8 @@ use Rattle.std.specs.List.{flat_map}
 use Rattle.std.proofs.lemmas.List.Concat.{flat_map-append}
 use Rattle.run_junit.specs.declared.tag.Key.{Key}
 use Rattle.run_junit.specs.declared.tag.Tag.{Tag}
-use Rattle.run_junit.specs.Tokens.{Attribute, Token, attribute_bytes, attributes_bytes, end, line, line_bytes, start}
+use Rattle.run_junit.specs.Tokens.{Attribute, Token, attribute_bytes, attributes_bytes, end, line, new_line_bytes}
+use Rattle.run_junit.specs.Tokens.{start}
 use Rattle.run_junit.specs.Tokens.{declaration, tag_name, token_bytes, tokens_bytes, written}
 use Rattle.run_junit.specs.Cases.{stream_tokens}
 use Rattle.run_junit.specs.Escape.{body_text}
@@ -46,20 +47,20 @@ both_attributes front x y =
 
 -- an element that begins on a line of its own
 pub line_start : (depth : ℕ) (tag : Tag) (said : List Attribute)
-    → ((line_bytes depth ++ (60 ∷ tag_name tag)) ++ attributes_bytes said) ++ codes ">"
+    → ((new_line_bytes depth ++ (60 ∷ tag_name tag)) ++ attributes_bytes said) ++ codes ">"
     ≡ tokens_bytes (line depth ∷ start tag said ∷ [])
 unfolding tokens_bytes
 line_start depth tag said =
-    append_assoc (line_bytes depth ++ (60 ∷ tag_name tag)) _ _
-    ∙ append_assoc (line_bytes depth) _ _
-    ∙ ap (λ bytes. line_bytes depth ++ bytes) (sym (append-nil _))
+    append_assoc (new_line_bytes depth ++ (60 ∷ tag_name tag)) _ _
+    ∙ append_assoc (new_line_bytes depth) _ _
+    ∙ ap (λ bytes. new_line_bytes depth ++ bytes) (sym (append-nil _))
 
 -- the same without attributes
 pub bare_start : (depth : ℕ) (tag : Tag)
-    → (line_bytes depth ++ (60 ∷ tag_name tag)) ++ codes ">" ≡ tokens_bytes (line depth ∷ start tag [] ∷ [])
+    → (new_line_bytes depth ++ (60 ∷ tag_name tag)) ++ codes ">" ≡ tokens_bytes (line depth ∷ start tag [] ∷ [])
 unfolding tokens_bytes attributes_bytes
 bare_start depth tag =
-    append_assoc (line_bytes depth) _ _ ∙ ap (λ bytes. line_bytes depth ++ bytes) (sym (append-nil _))
+    append_assoc (new_line_bytes depth) _ _ ∙ ap (λ bytes. new_line_bytes depth ++ bytes) (sym (append-nil _))
 
 -- tokens, and others behind them
 pub tokens_two : (front : List ℕ) (xs ys : List Token)
@@ -79,7 +80,7 @@ end_bytes tag = sym (append-nil _)
 
 -- an element on a line of its own
 pub line_start_end : (depth : ℕ) (tag : Tag) (said : List Attribute)
-    → (((line_bytes depth ++ (60 ∷ tag_name tag)) ++ attributes_bytes said) ++ codes ">")
+    → (((new_line_bytes depth ++ (60 ∷ tag_name tag)) ++ attributes_bytes said) ++ codes ">")
     ++ (60 ∷ 47 ∷ (tag_name tag ++ codes ">"))
     ≡ tokens_bytes (line depth ∷ start tag said ∷ end tag ∷ [])
 line_start_end depth tag said =
@@ -148,29 +149,29 @@ attributes_of_five front v w x y z =
 
 -- where a document begins
 pub document_start : (tag : Tag) (said : List Attribute)
-    → (((token_bytes declaration ++ line_bytes 0) ++ (60 ∷ tag_name tag)) ++ attributes_bytes said) ++ codes ">"
+    → (((token_bytes declaration ++ new_line_bytes 0) ++ (60 ∷ tag_name tag)) ++ attributes_bytes said) ++ codes ">"
     ≡ tokens_bytes (declaration ∷ line 0 ∷ start tag said ∷ [])
 document_start tag said =
     let open_tag = 60 ∷ tag_name tag in
     let rest = attributes_bytes said ++ codes ">" in
-    append_assoc ((token_bytes declaration ++ line_bytes 0) ++ open_tag) (attributes_bytes said) (codes ">")
-    ∙ append_assoc (token_bytes declaration ++ line_bytes 0) open_tag rest
-    ∙ append_assoc (token_bytes declaration) (line_bytes 0) (open_tag ++ rest)
+    append_assoc ((token_bytes declaration ++ new_line_bytes 0) ++ open_tag) (attributes_bytes said) (codes ">")
+    ∙ append_assoc (token_bytes declaration ++ new_line_bytes 0) open_tag rest
+    ∙ append_assoc (token_bytes declaration) (new_line_bytes 0) (open_tag ++ rest)
     ∙ ap (λ bytes. token_bytes declaration ++ bytes)
-    (sym (append_assoc (line_bytes 0) open_tag rest)
-    ∙ sym (append_assoc (line_bytes 0 ++ open_tag) (attributes_bytes said) (codes ">"))
+    (sym (append_assoc (new_line_bytes 0) open_tag rest)
+    ∙ sym (append_assoc (new_line_bytes 0 ++ open_tag) (attributes_bytes said) (codes ">"))
     ∙ line_start 0 tag said)
     ∙ first_token declaration (line 0 ∷ start tag said ∷ [])
 
 -- where it ends
 pub document_end : (tag : Tag)
-    → (line_bytes 0 ++ (60 ∷ 47 ∷ (tag_name tag ++ codes ">"))) ++ line_bytes 0
+    → (new_line_bytes 0 ++ (60 ∷ 47 ∷ (tag_name tag ++ codes ">"))) ++ new_line_bytes 0
     ≡ tokens_bytes (line 0 ∷ end tag ∷ line 0 ∷ [])
 unfolding tokens_bytes
 document_end tag =
     let close = 60 ∷ 47 ∷ (tag_name tag ++ codes ">") in
-    append_assoc (line_bytes 0) close (line_bytes 0)
-    ∙ ap (λ bytes. line_bytes 0 ++ (close ++ bytes)) (sym (append-nil (line_bytes 0)))
+    append_assoc (new_line_bytes 0) close (new_line_bytes 0)
+    ∙ ap (λ bytes. new_line_bytes 0 ++ (close ++ bytes)) (sym (append-nil (new_line_bytes 0)))
 
 -- lists of tokens that are made one by one
 pub flat_tokens_more : {X : Type 0} (f : X → List Token) (front : List ℕ) (xs : List X) (i : ℕ) (x : X) → i < length xs
@@ -188,15 +189,15 @@ flat_tokens_more f front xs i x below same =
 -- the same of texts that were made step by step
 
 pub line_start_from : (depth : ℕ) (tag : Tag) (said : List Attribute) (a b c d e : List ℕ) → a ≡ []
-    → b ≡ a ++ line_bytes depth → c ≡ b ++ (60 ∷ tag_name tag) → d ≡ c ++ attributes_bytes said → e ≡ d ++ codes ">"
+    → b ≡ a ++ new_line_bytes depth → c ≡ b ++ (60 ∷ tag_name tag) → d ≡ c ++ attributes_bytes said → e ≡ d ++ codes ">"
     → e ≡ tokens_bytes (line depth ∷ start tag said ∷ [])
 line_start_from depth tag said a b c d e first second third fourth fifth =
     fifth ∙ ap (λ bytes. bytes ++ codes ">") (fourth ∙ ap (λ bytes. bytes ++ attributes_bytes said)
-    (third ∙ ap (λ bytes. bytes ++ (60 ∷ tag_name tag)) (second ∙ ap (λ bytes. bytes ++ line_bytes depth) first)))
+    (third ∙ ap (λ bytes. bytes ++ (60 ∷ tag_name tag)) (second ∙ ap (λ bytes. bytes ++ new_line_bytes depth) first)))
     ∙ line_start depth tag said
 
 pub line_start_end_from : (depth : ℕ) (tag : Tag) (said : List Attribute) (a b c d e f : List ℕ) → a ≡ []
-    → b ≡ a ++ line_bytes depth → c ≡ b ++ (60 ∷ tag_name tag) → d ≡ c ++ attributes_bytes said → e ≡ d ++ codes ">"
+    → b ≡ a ++ new_line_bytes depth → c ≡ b ++ (60 ∷ tag_name tag) → d ≡ c ++ attributes_bytes said → e ≡ d ++ codes ">"
     → f ≡ e ++ (60 ∷ 47 ∷ (tag_name tag ++ codes ">"))
     → f ≡ tokens_bytes (line depth ∷ start tag said ∷ end tag ∷ [])
 line_start_end_from depth tag said a b c d e f first second third fourth fifth sixth =
@@ -225,20 +226,20 @@ five_attributes_from v w x y z a b c d e f first second third fourth fifth =
     ∙ attributes_of_five a v w x y z
 
 pub document_start_from : (tag : Tag) (said : List Attribute) (a b c d e : List ℕ) → a ≡ token_bytes declaration
-    → b ≡ a ++ line_bytes 0 → c ≡ b ++ (60 ∷ tag_name tag) → d ≡ c ++ attributes_bytes said → e ≡ d ++ codes ">"
+    → b ≡ a ++ new_line_bytes 0 → c ≡ b ++ (60 ∷ tag_name tag) → d ≡ c ++ attributes_bytes said → e ≡ d ++ codes ">"
     → e ≡ tokens_bytes (declaration ∷ line 0 ∷ start tag said ∷ [])
 document_start_from tag said a b c d e first second third fourth fifth =
     fifth ∙ ap (λ bytes. bytes ++ codes ">") (fourth ∙ ap (λ bytes. bytes ++ attributes_bytes said)
-    (third ∙ ap (λ bytes. bytes ++ (60 ∷ tag_name tag)) (second ∙ ap (λ bytes. bytes ++ line_bytes 0) first)))
+    (third ∙ ap (λ bytes. bytes ++ (60 ∷ tag_name tag)) (second ∙ ap (λ bytes. bytes ++ new_line_bytes 0) first)))
     ∙ document_start tag said
 
-pub document_end_from : (tag : Tag) (a b c d : List ℕ) → a ≡ [] → b ≡ a ++ line_bytes 0
-    → c ≡ b ++ (60 ∷ 47 ∷ (tag_name tag ++ codes ">")) → d ≡ c ++ line_bytes 0
+pub document_end_from : (tag : Tag) (a b c d : List ℕ) → a ≡ [] → b ≡ a ++ new_line_bytes 0
+    → c ≡ b ++ (60 ∷ 47 ∷ (tag_name tag ++ codes ">")) → d ≡ c ++ new_line_bytes 0
     → d ≡ tokens_bytes (line 0 ∷ end tag ∷ line 0 ∷ [])
 document_end_from tag a b c d first second third fourth =
-    fourth ∙ ap (λ bytes. bytes ++ line_bytes 0) (third
+    fourth ∙ ap (λ bytes. bytes ++ new_line_bytes 0) (third
     ∙ ap (λ bytes. bytes ++ (60 ∷ 47 ∷ (tag_name tag ++ codes ">"))) (second
-    ∙ ap (λ bytes. bytes ++ line_bytes 0) first))
+    ∙ ap (λ bytes. bytes ++ new_line_bytes 0) first))
     ∙ document_end tag
 
 -- the same where the last step may have failed

@@ -1,5 +1,5 @@
 -- The case of a finished test or setup script.
-use Rattle.std.specs.Prelude.{ℕ, Bool, true, false, not, ◌-◌, nat_lt, if◌then◌else◌, List, [], ◌∷◌, ◌++◌, length}
+use Rattle.std.specs.Prelude.{ℕ, not, ◌-◌, nat_lt, if◌then◌else◌, List, [], ◌∷◌, ◌++◌, length}
 use Rattle.std.specs.Prelude.{slice_get, take, drop, codes, Option, Some, None}
 use Rattle.std.specs.List.{flat_map}
 use Rattle.run_capture.specs.declared.test_output.ChildOutput.{ChildOutput}
@@ -24,7 +24,8 @@ use Rattle.run_junit.specs.declared.reason.Fault.TheVariants as faults
 use Rattle.run_junit.specs.declared.tag.Key.TheVariants as keys
 use Rattle.run_junit.specs.declared.tag.Tag.{Tag}
 use Rattle.run_junit.specs.declared.tag.Tag.TheVariants as tags
-use Rattle.run_junit.specs.Reasons.{child_said, fault_of, fault_tag, flaky_said, flaky_tag, reason_said, rerun_tag}
+use Rattle.run_junit.specs.Reasons.{child_said, fault_by_result, fault_tag, flaky_said, flaky_tag, reason_said}
+use Rattle.run_junit.specs.Reasons.{rerun_tag}
 use Rattle.run_junit.specs.Reasons.{type_said}
 use Rattle.run_junit.specs.Texts.{times_said}
 use Rattle.run_junit.specs.Tokens.{Attribute, Token, end, line, start, written}
@@ -62,21 +63,22 @@ reason_tokens fault message kind =
 
 -- why an attempt is none, and what it wrote
 abbrev pub why_tokens : ExecutionResult → ChildExecutionOutput → List Token
-why_tokens ended child = reason_tokens (fault_of ended) (child_said child) (type_said ended) ++ output_tokens 3 child
+why_tokens ended child =
+    reason_tokens (fault_by_result ended) (child_said child) (type_said ended) ++ output_tokens 3 child
 
 -- how a finished test ended: the first that holds
-abbrev pub ended_by : TestFinish → ExecutionResult → Ended
-ended_by finish last = if not (is_success last) then ends.Failed
+abbrev pub ended_test : TestFinish → ExecutionResult → Ended
+ended_test finish last = if not (is_success last) then ends.Failed
     else if is_flaky_failure finish.flaky (nat_lt 1 (length finish.statuses)) last then ends.FlakyFailed
     else ends.Passed
 
 -- the result of its last attempt; one with no attempt could not be run
-abbrev pub last_result : Option ExecuteStatus → ExecutionResult
-last_result (Some last) = last.result
-last_result None = ExecFail
+abbrev pub result_of_last : Option ExecuteStatus → ExecutionResult
+result_of_last (Some last) = last.result
+result_of_last None = ExecFail
 
 abbrev pub ended_of : TestFinish → Ended
-ended_of finish = ended_by finish (last_result (last_attempt finish))
+ended_of finish = ended_test finish (result_of_last (last_attempt finish))
 
 -- the attempt that its case is: the first of one that failed, and else the last
 abbrev pub main_by : Ended → TestFinish → Option ExecuteStatus
@@ -100,19 +102,19 @@ other_tag ends.FlakyFailed fault = rerun_tag fault
 other_tag ends.Failed fault = rerun_tag fault
 
 -- another attempt, in an element of this tag
-abbrev pub attempt_said : Option ℕ → ExecuteStatus → List Attribute
-attempt_said started status =
+abbrev pub attempt_attributes : Option ℕ → ExecuteStatus → List Attribute
+attempt_attributes started status =
     times_said started status.start status.time ++ reason_said (child_said status.output) (type_said status.result)
 
 abbrev pub attempt_tokens : Option ℕ → Tag → ExecuteStatus → List Token
 attempt_tokens started tag status =
-    (line 3 ∷ start tag (attempt_said started status) ∷ [])
+    (line 3 ∷ start tag (attempt_attributes started status) ∷ [])
     ++ (output_tokens 4 status.output ++ (line 3 ∷ end tag ∷ []))
 
 -- the same, unless it passed
 abbrev pub other_tokens : Option ℕ → Ended → ExecuteStatus → List Token
 other_tokens started ended status = if is_success status.result then []
-    else attempt_tokens started (other_tag ended (fault_of status.result)) status
+    else attempt_tokens started (other_tag ended (fault_by_result status.result)) status
 
 unfoldable pub others_tokens : Option ℕ → Ended → List ExecuteStatus → List Token
 others_tokens started ended others = flat_map (other_tokens started ended) others
@@ -121,7 +123,8 @@ others_tokens started ended others = flat_map (other_tokens started ended) other
 abbrev pub test_reason : Ended → ExecuteStatus → List Token
 test_reason ends.Passed main = []
 test_reason ends.FlakyFailed main = reason_tokens faults.Failure (flaky_said main) (codes "flaky failure")
-test_reason ends.Failed main = reason_tokens (fault_of main.result) (child_said main.output) (type_said main.result)
+test_reason ends.Failed main =
+    reason_tokens (fault_by_result main.result) (child_said main.output) (type_said main.result)
 
 -- what its attempt wrote, where it failed
 abbrev pub test_output : Ended → ExecuteStatus → List Token

@@ -9,7 +9,7 @@ use Rattle.run_events.specs.declared.events.TestEventKind.TheVariants as kinds
 use Rattle.run_junit.specs.declared.suites.Counts.{Counts}
 use Rattle.run_junit.specs.declared.tag.Key.TheVariants as keys
 use Rattle.run_junit.specs.declared.tag.Tag.TheVariants as tags
-use Rattle.run_junit.specs.Suites.{Finish, Suite, case_tokens, counts_of, finishes_told, suites_of}
+use Rattle.run_junit.specs.Suites.{Finish, Suite, case_tokens, counts_of, finishes_heard, suites_of}
 use Rattle.run_junit.specs.Texts.{times_said}
 use Rattle.run_junit.specs.Tokens.{Attribute, Token, declaration, end, line, start, tokens_bytes}
 
@@ -31,9 +31,9 @@ abbrev pub elapsed_after : ℕ → ReporterEvent → ℕ
 elapsed_after before Tick = before
 elapsed_after before (Test event) = event.elapsed
 
-abbrev pub elapsed_told : ℕ → List ReporterEvent → ℕ
-elapsed_told before [] = before
-elapsed_told before (event ∷ later) = elapsed_told (elapsed_after before event) later
+abbrev pub elapsed_last : ℕ → List ReporterEvent → ℕ
+elapsed_last before [] = before
+elapsed_last before (event ∷ later) = elapsed_last (elapsed_after before event) later
 
 -- where a suite begins, with its counts
 abbrev pub suite_said : List ℕ → Counts → List Attribute
@@ -61,8 +61,8 @@ counts_said counts id = (keys.Name, codes "nextest-run") ∷ (keys.Tests, decima
 abbrev pub run_said : Option ℕ → Counts → List ℕ → ℕ → List Attribute
 run_said started counts id elapsed = counts_said counts id ++ times_said started 0 elapsed
 
-abbrev pub run_start : Option ℕ → Counts → List ℕ → ℕ → List Token
-run_start started counts id elapsed =
+abbrev pub document_open : Option ℕ → Counts → List ℕ → ℕ → List Token
+document_open started counts id elapsed =
     declaration ∷ line 0 ∷ start tags.TestSuites (run_said started counts id elapsed) ∷ []
 
 -- where it ends
@@ -71,12 +71,12 @@ run_end = line 0 ∷ end tags.TestSuites ∷ line 0 ∷ []
 
 -- the document of finishes
 abbrev pub document : Option ℕ → List ℕ → ℕ → List Finish → List Token
-document started id elapsed finishes = run_start started (counts_of finishes) id elapsed
+document started id elapsed finishes = document_open started (counts_of finishes) id elapsed
     ++ (flat_map (suite_tokens started) (suites_of finishes) ++ run_end)
 
 -- the document of a run that started so, of which these events were told
 unfoldable pub junit_tokens : Option ℕ → List ReporterEvent → List Token
-junit_tokens started told = document started (id_told [] told) (elapsed_told 0 told) (finishes_told told)
+junit_tokens started told = document started (id_told [] told) (elapsed_last 0 told) (finishes_heard told)
 
 -- its text
 abbrev pub junit_text : Option ℕ → List ReporterEvent → List ℕ

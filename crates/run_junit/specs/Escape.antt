@@ -39,8 +39,8 @@ char_in place c = if is_xml c then placed_char place c else []
 abbrev pub after_outside : ℕ → Sequence
 after_outside c = if c == 27 then Begun else Outside
 
-abbrev pub after_begun : ℕ → Sequence
-after_begun c = if c == 91 then Control else if c == 93 then Command else after_outside c
+abbrev pub behind_escape : ℕ → Sequence
+behind_escape c = if c == 91 then Control else if c == 93 then Command else after_outside c
 
 abbrev pub after_control : ℕ → Sequence
 after_control c = if is_in_range 0x20 0x3F c then Control else after_outside c
@@ -48,12 +48,12 @@ after_control c = if is_in_range 0x20 0x3F c then Control else after_outside c
 abbrev pub after_command : ℕ → Sequence
 after_command c = if (c == 7) || (c == 10) then Outside else if c == 27 then CommandEnd else Command
 
-abbrev pub after : Sequence → ℕ → Sequence
-after Outside c = after_outside c
-after Begun c = after_begun c
-after Control c = after_control c
-after Command c = after_command c
-after CommandEnd c = after_begun c
+abbrev pub sequence_after : Sequence → ℕ → Sequence
+sequence_after Outside c = after_outside c
+sequence_after Begun c = behind_escape c
+sequence_after Control c = after_control c
+sequence_after Command c = after_command c
+sequence_after CommandEnd c = behind_escape c
 
 -- whether a character there is no part of the sequence
 abbrev pub is_said : Sequence → ℕ → Bool
@@ -64,18 +64,18 @@ is_said Command c = c == 10
 is_said CommandEnd c = not (is_in_range 0x40 0x5F c)
 
 -- a character, where an escape sequence is so far
-abbrev pub shown_char : Place → Sequence → ℕ → List ℕ
-shown_char place at c = if is_said at c then char_in place c else []
+abbrev pub char_shown : Place → Sequence → ℕ → List ℕ
+char_shown place at c = if is_said at c then char_in place c else []
 
 -- characters in their place
 abbrev pub shown_chars : Place → Sequence → List ℕ → List ℕ
 shown_chars place at [] = []
-shown_chars place at (c ∷ cs) = shown_char place at c ++ shown_chars place (after at c) cs
+shown_chars place at (c ∷ cs) = char_shown place at c ++ shown_chars place (sequence_after at c) cs
 
 -- how far an escape sequence is behind them
 abbrev pub after_all : Sequence → List ℕ → Sequence
 after_all at [] = at
-after_all at (c ∷ cs) = after_all (after at c) cs
+after_all at (c ∷ cs) = after_all (sequence_after at c) cs
 
 -- a text as the value of an attribute
 unfoldable pub attribute_text : List ℕ → List ℕ

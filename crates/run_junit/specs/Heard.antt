@@ -11,9 +11,10 @@ use Rattle.run_junit.specs.declared.reason.Fault.{Fault}
 use Rattle.run_junit.specs.declared.reason.Fault.TheVariants as faults
 use Rattle.run_junit.specs.declared.suites.Counts.{Counts}
 use Rattle.run_junit.specs.declared.suites.Kept.{Kept}
-use Rattle.run_junit.specs.Document.{elapsed_told, id_after_kind, id_told}
-use Rattle.run_junit.specs.Suites.{Finish, Suite, case_tokens, counts_of, fault_in, finish_in_kind, finishes_told}
-use Rattle.run_junit.specs.Suites.{put, suite_of, suites_of}
+use Rattle.run_junit.specs.Document.{elapsed_last, id_after_kind, id_told}
+use Rattle.run_junit.specs.Suites.{Finish, Suite, case_tokens, counts_of, fault_counted, unit_finish_in_kind}
+use Rattle.run_junit.specs.Suites.{finishes_heard}
+use Rattle.run_junit.specs.Suites.{put_last, suite_of, suites_of}
 use Rattle.run_junit.specs.Tokens.{tokens_bytes}
 
 -- the text of a case
@@ -46,7 +47,7 @@ kept_empty name = record { name = name; counts = counts_of []; cases = [] }
 
 -- suites, with one case more in the one of this name
 abbrev pub put_kept : List ℕ → Option Fault → List ℕ → List Kept → List Kept
-put_kept name fault case suites = put (λ suite. bytes_eq suite.name name) (kept_with fault case)
+put_kept name fault case suites = put_last (λ suite. bytes_eq suite.name name) (kept_with fault case)
     (kept_with fault case (kept_empty name)) suites
 
 -- a place right behind the last item that fits, and 0 where none does
@@ -58,36 +59,36 @@ pub record IsBehindLast {S : Type 0} (fits : S → Bool) (items : List S) (place
 -- what is kept after one event more
 abbrev pub heard_finish : Option ℕ → Heard → Finish → Heard
 heard_finish started heard finish = record heard {
-  counts = counts_with heard.counts (fault_in finish);
-  suites = put_kept (suite_of finish) (fault_in finish) (case_bytes started finish) heard.suites;
+  counts = counts_with heard.counts (fault_counted finish);
+  suites = put_kept (suite_of finish) (fault_counted finish) (case_bytes started finish) heard.suites;
 }
 
 abbrev pub heard_told : Option ℕ → Heard → Option Finish → Heard
 heard_told started heard (Some finish) = heard_finish started heard finish
 heard_told started heard None = heard
 
-abbrev pub heard_after_kind : Option ℕ → Heard → TestEventKind → Heard
-heard_after_kind started heard kind =
-    heard_told started (record heard { id = id_after_kind heard.id kind }) (finish_in_kind kind)
+abbrev pub kept_after_kind : Option ℕ → Heard → TestEventKind → Heard
+kept_after_kind started heard kind =
+    heard_told started (record heard { id = id_after_kind heard.id kind }) (unit_finish_in_kind kind)
 
-abbrev pub heard_after : Option ℕ → Heard → ReporterEvent → Heard
-heard_after started heard Tick = heard
-heard_after started heard (Test event) =
-    heard_after_kind started (record heard { elapsed = event.elapsed }) event.kind
+abbrev pub kept_after_event : Option ℕ → Heard → ReporterEvent → Heard
+kept_after_event started heard Tick = heard
+kept_after_event started heard (Test event) =
+    kept_after_kind started (record heard { elapsed = event.elapsed }) event.kind
 
 -- what is kept of no events
 abbrev pub heard_nothing : Heard
 heard_nothing = record { id = []; elapsed = 0; counts = counts_of []; suites = [] }
 
 -- what is kept of events
-unfoldable pub heard_of : Option ℕ → List ReporterEvent → Heard
-heard_of started told = record {
+unfoldable pub kept_of_run : Option ℕ → List ReporterEvent → Heard
+kept_of_run started told = record {
   id = id_told [] told;
-  elapsed = elapsed_told 0 told;
-  counts = counts_of (finishes_told told);
-  suites = map (kept_suite started) (suites_of (finishes_told told));
+  elapsed = elapsed_last 0 told;
+  counts = counts_of (finishes_heard told);
+  suites = map (kept_suite started) (suites_of (finishes_heard told));
 }
 
 -- these events were heard, unless it was given up
 abbrev pub Remembers : Option ℕ → Result Heard OutOfMemory → List ReporterEvent → Type 0
-Remembers started heard told = IfOk heard (λ kept. kept ≡ heard_of started told)
+Remembers started heard told = IfOk heard (λ kept. kept ≡ kept_of_run started told)

@@ -5,7 +5,7 @@ use Rattle.std.specs.Str.Lossy.{replacement_bytes}
 use Rattle.run_capture.specs.Bytes.{Takes}
 use Rattle.run_junit.specs.declared.heard.Heard.{Heard}
 use Rattle.run_junit.specs.declared.suites.Kept.{Kept}
-use Rattle.run_junit.specs.Document.{run_end, run_start, suite_end, suite_start}
+use Rattle.run_junit.specs.Document.{run_end, document_open, suite_end, suite_start}
 use Rattle.run_junit.specs.Tokens.{tokens_bytes}
 
 -- the sink took some bytes; they and what stands in the buffer now are what stood there, and a text behind it
@@ -32,5 +32,5 @@ suites_bytes suites = flat_map suite_bytes suites
 
 -- what is kept of a run
 abbrev pub heard_bytes : Option ℕ → Heard → List ℕ
-heard_bytes started heard = tokens_bytes (run_start started heard.counts heard.id heard.elapsed)
+heard_bytes started heard = tokens_bytes (document_open started heard.counts heard.id heard.elapsed)
     ++ (suites_bytes heard.suites ++ tokens_bytes run_end)

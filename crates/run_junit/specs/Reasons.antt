@@ -1,5 +1,5 @@
 -- Why an attempt is no success.
-use Rattle.std.specs.Prelude.{ℕ, ℤ, Bool, true, false, ◌==◌, if◌then◌else◌, List, [], ◌∷◌, ◌++◌, length, codes, decimal}
+use Rattle.std.specs.Prelude.{ℕ, Bool, true, false, ◌==◌, if◌then◌else◌, List, [], ◌∷◌, ◌++◌, length, codes, decimal}
 use Rattle.std.specs.Fmt.{signed_decimal}
 use Rattle.std.specs.List.{flat_map}
 use Rattle.run_capture.specs.declared.test_output.ChildFdError.{ChildFdError}
@@ -10,7 +10,6 @@ use Rattle.run_events.specs.declared.result.ExecutionResult.{ExecutionResult}
 use Rattle.run_events.specs.declared.result.ExecutionResult.TheVariants as results
 use Rattle.run_events.specs.declared.result.FailureStatus.{FailureStatus}
 use Rattle.run_events.specs.declared.result.FailureStatus.TheVariants.{ExitCode, Abort}
-use Rattle.run_events.specs.declared.result.LeakTimeoutResult.TheVariants as leaks
 use Rattle.run_report.specs.Blocks.{fault_said, fault_source}
 use Rattle.run_junit.specs.declared.reason.Fault.{Fault}
 use Rattle.run_junit.specs.declared.reason.Fault.TheVariants as faults
@@ -21,12 +20,12 @@ use Rattle.run_junit.specs.Tokens.{Attribute}
 
 -- as what an attempt that is no success counts: one that could not be run, or that left a descriptor open where that
 -- counts, is an error, and any other a failure
-abbrev pub fault_of : ExecutionResult → Fault
-fault_of results.ExecFail = faults.Error
-fault_of (results.Leak leak) = faults.Error
-fault_of (results.Fail status leaked) = faults.Failure
-fault_of (results.Timeout timeout) = faults.Failure
-fault_of results.Pass = faults.Failure
+abbrev pub fault_by_result : ExecutionResult → Fault
+fault_by_result results.ExecFail = faults.Error
+fault_by_result (results.Leak leak) = faults.Error
+fault_by_result (results.Fail status leaked) = faults.Failure
+fault_by_result (results.Timeout timeout) = faults.Failure
+fault_by_result results.Pass = faults.Failure
 
 -- its element in a case; in a case that failed where it is a later attempt; and in a case that passed
 abbrev pub fault_tag : Fault → Tag
@@ -42,9 +41,9 @@ flaky_tag faults.Failure = tags.FlakyFailure
 flaky_tag faults.Error = tags.FlakyError
 
 -- what kind of failure it is
-abbrev pub leak_said : Bool → List ℕ
-leak_said true = codes " and leaked handles"
-leak_said false = []
+abbrev pub leak_kind_said : Bool → List ℕ
+leak_kind_said true = codes " and leaked handles"
+leak_kind_said false = []
 
 abbrev pub status_said : FailureStatus → List ℕ
 status_said (ExitCode code) = codes "test failure with exit code " ++ signed_decimal code
@@ -53,7 +52,7 @@ status_said (Abort signal) = codes "test abort with signal " ++ signed_decimal s
 unfoldable pub type_said : ExecutionResult → List ℕ
 type_said results.ExecFail = codes "execution failure"
 type_said (results.Leak leak) = codes "test exited with code 0, but leaked handles so was marked failed"
-type_said (results.Fail status leaked) = status_said status ++ leak_said leaked
+type_said (results.Fail status leaked) = status_said status ++ leak_kind_said leaked
 type_said (results.Timeout timeout) = codes "test timeout"
 type_said results.Pass = []
 

@@ -17,7 +17,7 @@ use Rattle.run_junit.specs.declared.reason.Fault.{Fault}
 use Rattle.run_junit.specs.declared.reason.Fault.TheVariants as faults
 use Rattle.run_junit.specs.declared.suites.Counts.{Counts}
 use Rattle.run_junit.specs.Cases.{ended_of, main_of, script_tokens, test_tokens}
-use Rattle.run_junit.specs.Reasons.{fault_of}
+use Rattle.run_junit.specs.Reasons.{fault_by_result}
 use Rattle.run_junit.specs.Tokens.{Token}
 
 -- what finished
@@ -26,63 +26,63 @@ pub data Finish : Type 0 where
   script : ScriptFinish → Finish
 
 -- the finish that an event tells
-abbrev pub finish_in_kind : TestEventKind → Option Finish
-finish_in_kind (kinds.TestFinished told) = Some (test told.finish)
-finish_in_kind (kinds.SetupScriptFinished told) = Some (script told)
-finish_in_kind _ = None
+abbrev pub unit_finish_in_kind : TestEventKind → Option Finish
+unit_finish_in_kind (kinds.TestFinished told) = Some (test told.finish)
+unit_finish_in_kind (kinds.SetupScriptFinished told) = Some (script told)
+unit_finish_in_kind _ = None
 
-abbrev pub finish_in : ReporterEvent → Option Finish
-finish_in Tick = None
-finish_in (Test event) = finish_in_kind event.kind
+abbrev pub unit_finish : ReporterEvent → Option Finish
+unit_finish Tick = None
+unit_finish (Test event) = unit_finish_in_kind event.kind
 
 -- all finishes that events tell
-abbrev pub finishes_told : List ReporterEvent → List Finish
-finishes_told told = filter_map finish_in told
+abbrev pub finishes_heard : List ReporterEvent → List Finish
+finishes_heard told = filter_map unit_finish told
 
 -- the sub-run that a suite is of, in a stress run
-abbrev pub stress_text : Option StressIndex → List ℕ
-stress_text (Some index) = codes "@stress-" ++ (decimal index.current ++ codes ":")
-stress_text None = []
+abbrev pub sub_run_lead : Option StressIndex → List ℕ
+sub_run_lead (Some index) = codes "@stress-" ++ (decimal index.current ++ codes ":")
+sub_run_lead None = []
 
 -- the suite of a finish: that of the binary of a test, or one of a script alone; in a stress run of each sub-run
 unfoldable pub suite_of : Finish → List ℕ
-suite_of (test finish) = stress_text finish.test.stress_index ++ finish.test.id.binary
-suite_of (script finish) = stress_text finish.script.stress_index ++ (codes "@setup-script:" ++ finish.script.id)
+suite_of (test finish) = sub_run_lead finish.test.stress_index ++ finish.test.id.binary
+suite_of (script finish) = sub_run_lead finish.script.stress_index ++ (codes "@setup-script:" ++ finish.script.id)
 
 -- as what the case of a test counts that ended so, if it is none of a success: one with no attempt is an error
 abbrev pub fault_by : Ended → Option ExecuteStatus → Option Fault
 fault_by ended None = Some faults.Error
 fault_by ends.Passed (Some main) = None
 fault_by ends.FlakyFailed (Some main) = Some faults.Failure
-fault_by ends.Failed (Some main) = Some (fault_of main.result)
+fault_by ends.Failed (Some main) = Some (fault_by_result main.result)
 
 abbrev pub test_fault : TestFinish → Option Fault
 test_fault finish = fault_by (ended_of finish) (main_of finish)
 
 -- the same of a script
 abbrev pub script_fault : ScriptFinish → Option Fault
-script_fault finish = if is_success finish.status.result then None else Some (fault_of finish.status.result)
+script_fault finish = if is_success finish.status.result then None else Some (fault_by_result finish.status.result)
 
-abbrev pub fault_in : Finish → Option Fault
-fault_in (test finish) = test_fault finish
-fault_in (script finish) = script_fault finish
+abbrev pub fault_counted : Finish → Option Fault
+fault_counted (test finish) = test_fault finish
+fault_counted (script finish) = script_fault finish
 
-abbrev pub is_failure : Option Fault → Bool
-is_failure (Some faults.Failure) = true
-is_failure (Some faults.Error) = false
-is_failure None = false
+abbrev pub counts_as_failure : Option Fault → Bool
+counts_as_failure (Some faults.Failure) = true
+counts_as_failure (Some faults.Error) = false
+counts_as_failure None = false
 
-abbrev pub is_error : Option Fault → Bool
-is_error (Some faults.Failure) = false
-is_error (Some faults.Error) = true
-is_error None = false
+abbrev pub counts_as_error : Option Fault → Bool
+counts_as_error (Some faults.Failure) = false
+counts_as_error (Some faults.Error) = true
+counts_as_error None = false
 
 -- how many finishes there are, and how many of them count as failures and as errors
 abbrev pub counts_of : List Finish → Counts
 counts_of finishes = record {
   tests = length finishes;
-  failures = count_by (λ finish. is_failure (fault_in finish)) finishes;
-  errors = count_by (λ finish. is_error (fault_in finish)) finishes;
+  failures = count_by (λ finish. counts_as_failure (fault_counted finish)) finishes;
+  errors = count_by (λ finish. counts_as_error (fault_counted finish)) finishes;
 }
 
 -- the case of a finish
@@ -96,22 +96,22 @@ pub record Suite : Type 0 where
   pub finishes : List Finish
 
 -- an item that goes into the last one that it fits into, or else behind all
-abbrev pub put : {S : Type 0} → (S → Bool) → (S → S) → S → List S → List S
-put fits grown new [] = new ∷ []
-put fits grown new (s ∷ ss) =
-    if fits s && not (list_any fits ss) then grown s ∷ ss else s ∷ put fits grown new ss
+abbrev pub put_last : {S : Type 0} → (S → Bool) → (S → S) → S → List S → List S
+put_last fits grown new [] = new ∷ []
+put_last fits grown new (s ∷ ss) =
+    if fits s && not (list_any fits ss) then grown s ∷ ss else s ∷ put_last fits grown new ss
 
 -- a finish that goes into the suite of its name, or into a new one behind the others
 abbrev pub put_finish : Finish → List Suite → List Suite
-put_finish finish suites = put (λ suite. bytes_eq suite.name (suite_of finish))
+put_finish finish suites = put_last (λ suite. bytes_eq suite.name (suite_of finish))
     (λ suite. record suite { finishes = suite.finishes ++ finish ∷ [] })
     (record { name = suite_of finish; finishes = finish ∷ [] }) suites
 
 -- finishes that go one after the other into suites
-abbrev pub put_all : List Suite → List Finish → List Suite
-put_all suites [] = suites
-put_all suites (finish ∷ later) = put_all (put_finish finish suites) later
+abbrev pub put_each : List Suite → List Finish → List Suite
+put_each suites [] = suites
+put_each suites (finish ∷ later) = put_each (put_finish finish suites) later
 
 -- finishes in suites
 unfoldable pub suites_of : List Finish → List Suite
-suites_of finishes = put_all [] finishes
+suites_of finishes = put_each [] finishes

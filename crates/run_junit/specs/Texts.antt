@@ -49,14 +49,14 @@ unfoldable pub date_text : ℕ → List ℕ
 date_text day = date_of_march (day + 719_468)
 
 -- a time of day, in milliseconds
-unfoldable pub clock_text : ℕ → List ℕ
-clock_text time = two_digits (time / 3_600_000) ++ (codes ":" ++ (two_digits (time / 60_000 % 60) ++ (codes ":"
+unfoldable pub time_of_day : ℕ → List ℕ
+time_of_day time = two_digits (time / 3_600_000) ++ (codes ":" ++ (two_digits (time / 60_000 % 60) ++ (codes ":"
     ++ (two_digits (time / 1000 % 60) ++ (codes "." ++ three_digits (time % 1000))))))
 
 -- the moment so many milliseconds after the start of 1970
 unfoldable pub moment_text : ℕ → List ℕ
 moment_text time =
-    date_text (time / 86_400_000) ++ (codes "T" ++ (clock_text (time % 86_400_000) ++ codes "+00:00"))
+    date_text (time / 86_400_000) ++ (codes "T" ++ (time_of_day (time % 86_400_000) ++ codes "+00:00"))
 
 -- the moment so many nanoseconds after one so many milliseconds after the start of 1970; none past the greatest u64
 abbrev pub moment_said : Option ℕ → ℕ → List Attribute

@@ -62,13 +62,13 @@ unfoldable pub attributes_bytes : List Attribute → List ℕ
 attributes_bytes said = flat_map attribute_bytes said
 
 -- a line feed, and four blanks for each step
-abbrev pub line_bytes : ℕ → List ℕ
-line_bytes zero = 10 ∷ []
-line_bytes (suc depth) = line_bytes depth ++ codes "    "
+abbrev pub new_line_bytes : ℕ → List ℕ
+new_line_bytes zero = 10 ∷ []
+new_line_bytes (suc depth) = new_line_bytes depth ++ codes "    "
 
 abbrev pub token_bytes : Token → List ℕ
 token_bytes declaration = codes "<?xml version=\"1.0\" encoding=\"UTF-8\"?>"
-token_bytes (line depth) = line_bytes depth
+token_bytes (line depth) = new_line_bytes depth
 token_bytes (start tag said) = codes "<" ++ (tag_name tag ++ (attributes_bytes said ++ codes ">"))
 token_bytes (end tag) = codes "</" ++ (tag_name tag ++ codes ">")
 token_bytes (written bytes) = body_text bytes

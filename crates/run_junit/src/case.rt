@@ -6,7 +6,7 @@ ghost use Rattle.run_junit.specs.declared.reason.Fault.TheVariants.{Error, Failu
 ghost use Rattle.run_junit.specs.Cases.{
   attempt_tokens,
   case_end,
-  ended_by,
+  ended_test,
   ended_of,
   main_of,
   other_tag,
@@ -22,7 +22,7 @@ ghost use Rattle.run_junit.specs.Cases.{
   test_reason,
   test_tokens,
 };
-ghost use Rattle.run_junit.specs.Reasons.{child_said, fault_of, flaky_said, type_said};
+ghost use Rattle.run_junit.specs.Reasons.{child_said, fault_by_result, flaky_said, type_said};
 ghost use Rattle.run_junit.specs.Tokens.{tokens_bytes};
 
 use crate::elements::{attempt_start, bare_start, case_start, end_here, end_line, reason_line};
@@ -109,7 +109,7 @@ pub(crate) fn push_reason(
     child: &ChildExecutionOutput,
 ) -> Mem<()>
     ensures { OnOk result (page.new ≡ page.old
-        ++ tokens_bytes (reason_tokens (fault_of ended) (child_said child.now) (type_said ended))) }
+        ++ tokens_bytes (reason_tokens (fault_by_result ended) (child_said child.now) (type_said ended))) }
 {
     let message = child_said(alloc, child)?;
     let kind = type_said(alloc, ended)?;
@@ -137,8 +137,8 @@ fn push_unrun(alloc: Global, page: &mut Page) -> Mem<()>
 }
 
 // How a test ended whose last attempt had this result.
-fn ended_by(finish: &TestFinish, last: ExecutionResult) -> Ended
-    ensures { result ≡ ended_by finish.now last }
+fn ended_test(finish: &TestFinish, last: ExecutionResult) -> Ended
+    ensures { result ≡ ended_test finish.now last }
 {
     if !last.is_success() {
         Ended::Failed
@@ -154,8 +154,8 @@ pub(crate) fn ended_of(finish: &TestFinish) -> Ended
     ensures { result ≡ ended_of finish.now }
 {
     match finish.statuses.as_slice().last() {
-        Some(last) => ended_by(finish, last.result),
-        None => ended_by(finish, ExecutionResult::ExecFail),
+        Some(last) => ended_test(finish, last.result),
+        None => ended_test(finish, ExecutionResult::ExecFail),
     }
 }
 

@@ -1,7 +1,8 @@
 // Lines of a document that are made of one element.
 ghost use Rattle.std.specs.Prelude.{◌≡◌, ◌++◌, ◌∷◌, ◌≤◌, [], codes, string_bytes, IfOk, OnOk};
 ghost use Rattle.run_junit.specs.declared.tag.Key.TheVariants.{Name, Value};
-ghost use Rattle.run_junit.specs.Cases.{attempt_said, case_end, case_said, case_start, reason_tokens, variable_tokens};
+ghost use Rattle.run_junit.specs.Cases.{attempt_attributes, case_end, case_said, case_start, reason_tokens};
+ghost use Rattle.run_junit.specs.Cases.{variable_tokens};
 ghost use Rattle.run_junit.specs.Tokens.{attributes_bytes, end, line, start, tokens_bytes};
 
 use crate::moment::push_times;
@@ -108,7 +109,7 @@ fn push_attempt_said(
     status: &ExecuteStatus,
 ) -> Mem<()>
     ensures { OnOk result (string_bytes out.new ≡ string_bytes out.old
-        ++ attributes_bytes (attempt_said started status.now)) }
+        ++ attributes_bytes (attempt_attributes started status.now)) }
 {
     let message = child_said(alloc, &status.output)?;
     let kind = type_said(alloc, status.result)?;
@@ -124,7 +125,7 @@ pub(crate) fn attempt_start(
     status: &ExecuteStatus,
 ) -> Mem<String>
     ensures { IfOk result (λ s. string_bytes s
-        ≡ tokens_bytes (line 3 ∷ start tag (attempt_said started status.now) ∷ [])) }
+        ≡ tokens_bytes (line 3 ∷ start tag (attempt_attributes started status.now) ∷ [])) }
 {
     let mut out = String::new(alloc);
     push_line(&mut out, 3)?;

@@ -1,8 +1,8 @@
 // Texts as they stand in a document of XML 1.0.
 ghost use Rattle.std.specs.Prelude.{◌≡◌, ◌++◌, string_bytes, OnOk};
 ghost use Rattle.run_junit.specs.Escape.{
-  after,
-  after_begun,
+  sequence_after,
+  behind_escape,
   after_command,
   after_control,
   after_outside,
@@ -14,7 +14,7 @@ ghost use Rattle.run_junit.specs.Escape.{
   is_xml,
   placed_char,
   reference,
-  shown_char,
+  char_shown,
 };
 
 use run_capture::Mem;
@@ -122,8 +122,8 @@ fn after_outside(c: char) -> Sequence
     }
 }
 
-fn after_begun(c: char) -> Sequence
-    ensures { result ≡ after_begun c }
+fn behind_escape(c: char) -> Sequence
+    ensures { result ≡ behind_escape c }
 {
     match c {
         '[' => Sequence::Control,
@@ -157,13 +157,13 @@ fn after_command(c: char) -> Sequence
 impl Sequence {
     // How far it is behind one more character.
     pub(crate) fn after(self, c: char) -> Sequence
-        ensures { result ≡ after self c }
+        ensures { result ≡ sequence_after self c }
     {
         match self {
             Sequence::Outside => after_outside(c),
             Sequence::Control => after_control(c),
             Sequence::Command => after_command(c),
-            Sequence::Begun | Sequence::CommandEnd => after_begun(c),
+            Sequence::Begun | Sequence::CommandEnd => behind_escape(c),
         }
     }
 
@@ -182,7 +182,7 @@ impl Sequence {
 
 /// Adds a character, where an escape sequence is so far.
 pub(crate) fn push_char(out: &mut String, place: Place, at: Sequence, c: char) -> Mem<()>
-    ensures { OnOk result (string_bytes out.new ≡ string_bytes out.old ++ shown_char place at c) }
+    ensures { OnOk result (string_bytes out.new ≡ string_bytes out.old ++ char_shown place at c) }
 {
     if at.is_said(c) {
         return push_in(out, place, c);

@@ -1,6 +1,6 @@
 // Where the document and its suites begin and end.
 ghost use Rattle.std.specs.Prelude.{◌≡◌, ◌++◌, decimal, string_bytes, IfOk, OnOk};
-ghost use Rattle.run_junit.specs.Document.{counts_said, run_end, run_said, run_start, suite_end, suite_said};
+ghost use Rattle.run_junit.specs.Document.{counts_said, run_end, run_said, document_open, suite_end, suite_said};
 ghost use Rattle.run_junit.specs.Document.{suite_start};
 ghost use Rattle.run_junit.specs.Tokens.{attribute_bytes, attributes_bytes, tokens_bytes};
 
@@ -75,9 +75,9 @@ fn push_run_said(alloc: Global, out: &mut String, started: Option<u64>, heard: &
 }
 
 /// Where the document begins.
-pub(crate) fn run_start(alloc: Global, started: Option<u64>, heard: &Heard) -> Mem<String>
+pub(crate) fn document_open(alloc: Global, started: Option<u64>, heard: &Heard) -> Mem<String>
     ensures { IfOk result (λ s. string_bytes s
-        ≡ tokens_bytes (run_start started heard.now.counts heard.now.id heard.now.elapsed)) }
+        ≡ tokens_bytes (document_open started heard.now.counts heard.now.id heard.now.elapsed)) }
 {
     let mut out = String::from_str(alloc, "<?xml version=\"1.0\" encoding=\"UTF-8\"?>")?;
     push_line(&mut out, 0)?;

@@ -1,12 +1,12 @@
 // What is kept of the events that were heard.
 ghost use Rattle.std.specs.Prelude.{◌≡◌, IfOk, OnOk};
 ghost use Rattle.uuid.specs.Text.{hyphenated_text, lower};
-ghost use Rattle.run_junit.specs.Heard.{heard_after, heard_after_kind, heard_finish, heard_nothing};
+ghost use Rattle.run_junit.specs.Heard.{kept_after_event, kept_after_kind, heard_finish, heard_nothing};
 ghost use Rattle.run_junit.specs.Suites.{script, test};
 
 use crate::case::test_page;
 use crate::script::script_page;
-use crate::suites::{Counts, Kept, put, script_fault, script_suite, test_fault, test_suite};
+use crate::suites::{Counts, Kept, put_case, script_fault, script_suite, test_fault, test_suite};
 use run_capture::{List, Mem, Text};
 use run_events::{ReporterEvent, RunStarted, ScriptFinish, TestEventKind, TestFinish};
 use std::alloc::Global;
@@ -51,7 +51,7 @@ impl Heard {
         let fault = test_fault(finish);
         self.counts = self.counts.with(fault)?;
         let case = test_page(alloc, started, finish)?;
-        put(alloc, &mut self.suites, name, fault, case)
+        put_case(alloc, &mut self.suites, name, fault, case)
     }
 
     // Keeps the case of a script.
@@ -62,12 +62,12 @@ impl Heard {
         let fault = script_fault(finish);
         self.counts = self.counts.with(fault)?;
         let case = script_page(alloc, started, finish)?;
-        put(alloc, &mut self.suites, name, fault, case)
+        put_case(alloc, &mut self.suites, name, fault, case)
     }
 
     // Hears what an event says.
     fn hear_kind(&mut self, alloc: Global, started: Option<u64>, kind: &TestEventKind) -> Mem<()>
-        ensures { OnOk result (self.new ≡ heard_after_kind started self.old kind.now) }
+        ensures { OnOk result (self.new ≡ kept_after_kind started self.old kind.now) }
     {
         match kind {
             TestEventKind::RunStarted(told) => {
@@ -87,7 +87,7 @@ impl Heard {
         started: Option<u64>,
         event: &ReporterEvent,
     ) -> Mem<()>
-        ensures { OnOk result (self.new ≡ heard_after started self.old event.now) }
+        ensures { OnOk result (self.new ≡ kept_after_event started self.old event.now) }
     {
         match event {
             ReporterEvent::Tick => Ok(()),

@@ -2,7 +2,7 @@
 ghost use Rattle.std.specs.Prelude.{◌≡◌, ◌+◌, ◌*◌, ◌++◌, ◌≤◌, ◌<◌, ◌^◌, string_bytes, IfOk, OnOk};
 ghost use Rattle.run_report.specs.Texts.{milliseconds, seconds_text};
 ghost use Rattle.run_junit.specs.Texts.{
-  clock_text,
+  time_of_day,
   date_in_year,
   date_of_march,
   date_text,
@@ -112,9 +112,9 @@ fn date(alloc: Global, day: u64) -> Mem<String>
 }
 
 // A time of day, in milliseconds.
-#[tactic(auto, using(crate::proofs::TextLemmas::padded), unfolding(crate::specs::Texts::clock_text))]
+#[tactic(auto, using(crate::proofs::TextLemmas::padded), unfolding(crate::specs::Texts::time_of_day))]
 fn clock(alloc: Global, time: u64) -> Mem<String>
-    ensures { IfOk result (λ s. string_bytes s ≡ clock_text time) }
+    ensures { IfOk result (λ s. string_bytes s ≡ time_of_day time) }
 {
     let hours = time / 3_600_000;
     let minutes = time / 60_000 % 60;

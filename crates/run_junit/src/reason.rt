@@ -6,11 +6,11 @@ ghost use Rattle.run_junit.specs.Reasons.{
   child_said,
   error_said,
   errors_said,
-  fault_of,
+  fault_by_result,
   fault_tag,
   flaky_said,
   flaky_tag,
-  leak_said,
+  leak_kind_said,
   message_said,
   reason_said,
   rerun_tag,
@@ -35,7 +35,7 @@ pub(crate) enum Fault {
 impl Fault {
     /// That of an attempt with this result.
     pub(crate) fn of(ended: ExecutionResult) -> Fault
-        ensures { result ≡ fault_of ended }
+        ensures { result ≡ fault_by_result ended }
     {
         match ended {
             ExecutionResult::ExecFail | ExecutionResult::Leak { .. } => Fault::Error,
@@ -76,8 +76,8 @@ impl Fault {
     }
 }
 
-fn leak_said(leaked: bool) -> &'static str
-    ensures { result.now ≡ leak_said leaked }
+fn leak_kind_said(leaked: bool) -> &'static str
+    ensures { result.now ≡ leak_kind_said leaked }
 {
     if leaked { " and leaked handles" } else { "" }
 }
@@ -96,10 +96,10 @@ fn status_said(alloc: Global, status: FailureStatus) -> Mem<String>
 }
 
 fn failed_said(alloc: Global, status: FailureStatus, leaked: bool) -> Mem<String>
-    ensures { IfOk result (λ s. string_bytes s ≡ status_said status ++ leak_said leaked) }
+    ensures { IfOk result (λ s. string_bytes s ≡ status_said status ++ leak_kind_said leaked) }
 {
     let mut said = status_said(alloc, status)?;
-    said.push_str(leak_said(leaked))?;
+    said.push_str(leak_kind_said(leaked))?;
     Ok(said)
 }
 

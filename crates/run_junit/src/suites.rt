@@ -6,7 +6,7 @@ ghost use Rattle.run_junit.specs.Suites.{
   fault_by,
   script,
   script_fault,
-  stress_text,
+  sub_run_lead,
   suite_of,
   test,
   test_fault,
@@ -74,8 +74,8 @@ impl Counts {
 }
 
 // The sub-run that a suite is of, in a stress run.
-fn stress_text(alloc: Global, index: Option<StressIndex>) -> Mem<String>
-    ensures { IfOk result (λ s. string_bytes s ≡ stress_text index) }
+fn sub_run_lead(alloc: Global, index: Option<StressIndex>) -> Mem<String>
+    ensures { IfOk result (λ s. string_bytes s ≡ sub_run_lead index) }
 {
     match index {
         Some(index) => {
@@ -91,7 +91,7 @@ fn stress_text(alloc: Global, index: Option<StressIndex>) -> Mem<String>
 pub(crate) fn test_suite(alloc: Global, finish: &TestFinish) -> Mem<Text>
     ensures { IfOk result (λ name. name ≡ suite_of (test finish.now)) }
 {
-    let mut name = stress_text(alloc, finish.test.stress_index)?;
+    let mut name = sub_run_lead(alloc, finish.test.stress_index)?;
     name.push_str(finish.test.id.binary.as_str())?;
     Ok(Text::from_string(name))
 }
@@ -103,7 +103,7 @@ pub(crate) fn script_suite(alloc: Global, finish: &ScriptFinish) -> Mem<Text>
 {
     let id = finish.script.id.as_str();
     let script = format!(in alloc; "@setup-script:{id}")?;
-    let mut name = stress_text(alloc, finish.script.stress_index)?;
+    let mut name = sub_run_lead(alloc, finish.script.stress_index)?;
     name.push_str(script.as_str())?;
     Ok(Text::from_string(name))
 }
@@ -203,7 +203,7 @@ fn put_before(
 }
 
 /// Puts a case into the suite of its name.
-pub(crate) fn put(
+pub(crate) fn put_case(
     alloc: Global,
     suites: &mut List<Kept>,
     name: Text,

@@ -1,6 +1,6 @@
 // The form of a document.
 ghost use Rattle.std.specs.Prelude.{◌≡◌, ◌≤◌, ◌++◌, ◌∷◌, [], string_bytes, OnOk};
-ghost use Rattle.run_junit.specs.Tokens.{attribute_bytes, attributes_bytes, line_bytes, tag_name};
+ghost use Rattle.run_junit.specs.Tokens.{attribute_bytes, attributes_bytes, new_line_bytes, tag_name};
 ghost use Rattle.run_junit.specs.Tokens.{end, line, tokens_bytes};
 
 use crate::escape::push_attribute_text;
@@ -10,7 +10,7 @@ use run_capture::Mem;
 // A line feed, and four blanks for each step.
 fn line_of(depth: u8) -> &'static str
     requires { depth ≤ 4 }
-    ensures { result.now ≡ line_bytes depth }
+    ensures { result.now ≡ new_line_bytes depth }
 {
     match depth {
         0 => "\n",
@@ -24,7 +24,7 @@ fn line_of(depth: u8) -> &'static str
 /// Adds the end of a line.
 pub(crate) fn push_line(out: &mut String, depth: u8) -> Mem<()>
     requires { depth ≤ 4 }
-    ensures { OnOk result (string_bytes out.new ≡ string_bytes out.old ++ line_bytes depth) }
+    ensures { OnOk result (string_bytes out.new ≡ string_bytes out.old ++ new_line_bytes depth) }
 {
     out.push_str(line_of(depth))?;
     Ok(())

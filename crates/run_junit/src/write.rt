@@ -4,12 +4,12 @@ ghost use Rattle.std.specs.Str.{chars};
 ghost use Rattle.run_capture.specs.Bytes.{Takes};
 ghost use Rattle.run_events.specs.Counts.{CountsRefusal};
 ghost use Rattle.run_junit.specs.declared.escape.Place.TheVariants.{Body};
-ghost use Rattle.run_junit.specs.Escape.{after_all, body_text, shown_char, shown_chars};
+ghost use Rattle.run_junit.specs.Escape.{after_all, body_text, char_shown, shown_chars};
 ghost use Rattle.run_junit.specs.Page.{part_bytes, parts_bytes};
 ghost use Rattle.run_junit.specs.Put.{Puts, cases_bytes, chunk_text, heard_bytes, suite_bytes, suites_bytes};
 
 use crate::escape::{Place, Sequence, push_char};
-use crate::heads::{run_end, run_start, suite_end, suite_start};
+use crate::heads::{document_open, run_end, suite_end, suite_start};
 use crate::heard::Heard;
 use crate::page::{Page, Part};
 use crate::suites::Kept;
@@ -56,7 +56,7 @@ fn put_char<K: Sink>(
     c: char,
 ) -> Result<(), ReportFault<Failed>>
     ensures puts { OnOk result (Puts (K.taken sink.old) (K.taken sink.new) (string_bytes buffer.old)
-        (string_bytes buffer.new) (shown_char Body at c)) }
+        (string_bytes buffer.new) (char_shown Body at c)) }
     ensures fault { CountsRefusal (K.faults sink.old) (K.faults sink.new) result }
 {
     match push_char(buffer, Place::Body, at, c) {
@@ -273,7 +273,7 @@ fn put_heard<K: Sink>(
         (string_bytes buffer.new) (heard_bytes started heard.now)) }
     ensures fault { CountsRefusal (K.faults sink.old) (K.faults sink.new) result }
 {
-    put_made(sink, buffer, run_start(alloc, started, heard))?;
+    put_made(sink, buffer, document_open(alloc, started, heard))?;
     put_suites(alloc, sink, buffer, heard.suites.as_slice())?;
     put_made(sink, buffer, run_end(alloc))
 }

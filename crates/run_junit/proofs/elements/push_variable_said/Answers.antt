@@ -1,4 +1,4 @@
-use Rattle.std.proofs.Common.{◌∙◌, ◌∷◌, ◌++◌, [], ap, codes, List, ℕ}
+use Rattle.std.proofs.Common.{◌∙◌, ◌++◌, codes}
 use Rattle.run_junit.specs.declared.tag.Key.TheVariants as keys
 use Rattle.run_junit.proofs.TokenLemmas.{both_attributes_made}
 use Rattle.run_junit.proofs.elements.push_variable_said.Goals as goal

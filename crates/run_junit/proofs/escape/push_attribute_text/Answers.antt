@@ -1,10 +1,10 @@
-use Rattle.std.proofs.Common.{◌∙◌, ap, ◌++◌, ◌∷◌, [], string_bytes, sym}
+use Rattle.std.proofs.Common.{◌∙◌, ap, ◌++◌, string_bytes, sym}
 use Rattle.std.proofs.lemmas.Iterator.{YieldsList-from_chars}
 use Rattle.std.proofs.lemmas.Iterator.Consumers.{YieldsList-end}
 use Rattle.std.proofs.lemmas.List.{map-id}
 use Rattle.run_junit.specs.declared.escape.Place.TheVariants.{Attribute}
 use Rattle.run_junit.specs.declared.escape.Sequence.TheVariants.{Outside}
-use Rattle.run_junit.specs.Escape.{after_all, attribute_text, shown_char, shown_chars}
+use Rattle.run_junit.specs.Escape.{attribute_text, shown_chars}
 use Rattle.run_junit.proofs.EscapeLemmas.{after_more, shown_more}
 use Rattle.run_junit.proofs.escape.push_attribute_text.Goals as goal
 

@@ -1,4 +1,4 @@
-use Rattle.std.proofs.Common.{◌∙◌, ap, ◌++◌, take}
+use Rattle.std.proofs.Common.{◌∙◌, ap, ◌++◌}
 use Rattle.run_junit.specs.Cases.{variable_tokens}
 use Rattle.run_junit.specs.Tokens.{tokens_bytes}
 use Rattle.run_junit.proofs.TokenLemmas.{flat_tokens_more, no_tokens}

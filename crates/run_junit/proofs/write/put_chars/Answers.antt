@@ -1,8 +1,7 @@
-use Rattle.std.proofs.Common.{◌≡◌, ◌∙◌, ap, refl, sym}
+use Rattle.std.proofs.Common.{◌∙◌, ap, refl, sym}
 use Rattle.std.proofs.lemmas.Iterator.{YieldsList-from_chars}
 use Rattle.std.proofs.lemmas.Iterator.Consumers.{YieldsList-end}
 use Rattle.std.proofs.lemmas.List.{map-id}
-use Rattle.std.specs.Str.{chars}
 use Rattle.run_junit.specs.declared.escape.Place.TheVariants.{Body}
 use Rattle.run_junit.specs.Escape.{after_all, shown_chars}
 use Rattle.run_junit.proofs.EscapeLemmas.{after_more}

@@ -1,7 +1,7 @@
 use Rattle.run_junit.specs.declared.tag.Tag.TheVariants as tags
 use Rattle.run_junit.specs.Document.{run_said}
 use Rattle.run_junit.proofs.TokenLemmas.{document_start_from}
-use Rattle.run_junit.proofs.heads.run_start.Goals as goal
+use Rattle.run_junit.proofs.heads.document_open.Goals as goal
 
 pub returns : goal.returns
 returns c =
