@@ -232,7 +232,7 @@ pub fn run_and_deliver<
     record: Option<&str>,
 ) -> Listened<K, A>
     requires report { A.heard report [] }
-    requires junit { IfSome junit (λ j. ⟦JUnitReport as Listener⟧.heard j []) }
+    requires junit { IfSome junit (λ j. ⟦<JUnitReport as Listener>⟧.heard j []) }
 {
     let alloc = rt.alloc();
     let mut lines = LineOutside::new(rt, alloc, rt.stdin());

@@ -18,7 +18,7 @@ fn now(rt: &HostRuntime) -> Option<u64> {
 
 /// Who keeps the cases of a run that starts now, if a file of them is asked for.
 pub fn junit_of(rt: &HostRuntime, name: Option<&str>) -> Option<JUnitReport>
-    ensures { IfSome result (λ junit. ⟦JUnitReport as Listener⟧.heard junit []) }
+    ensures { IfSome result (λ junit. ⟦<JUnitReport as Listener>⟧.heard junit []) }
 {
     match name {
         Some(_) => Some(JUnitReport::new(rt.alloc(), now(rt))),
@@ -27,6 +27,7 @@ pub fn junit_of(rt: &HostRuntime, name: Option<&str>) -> Option<JUnitReport>
 }
 
 // Why a file isn't written.
+#[derive(Drop)]
 enum Lack {
     NotMade(io::Error),
     WriteFailed,

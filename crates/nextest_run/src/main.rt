@@ -26,6 +26,7 @@ use std::io::{IsTerminal, Stderr, Stdin, Stdout};
 use std::process::ExitCode;
 use std::sync::Wait;
 use std::thread::Threads;
+use std::time::Clock;
 use words::{Color, Progress, RunWords, run_words_of, show_words_of};
 
 const VERSION: &str = "nextest_run 0.0.0";
@@ -230,7 +231,12 @@ fn end_delivered(
 }
 
 // Runs the plan of standard input as these words ask.
-fn run_asked(rt: HostRuntime, words: &[String], asked: &RunWords<'_>) -> u8 {
+fn run_asked<X: Threads + Wait + Clock + Sync + Send + Copy + Drop>(
+    threads: &X,
+    rt: HostRuntime,
+    words: &[String],
+    asked: &RunWords<'_>,
+) -> u8 {
     let bar = bar_of(&rt, asked.progress.unwrap_or(Progress::Auto));
     let junit = junit_of(&rt, asked.junit);
     let Listened {
@@ -238,7 +244,7 @@ fn run_asked(rt: HostRuntime, words: &[String], asked: &RunWords<'_>) -> u8 {
         report,
         junit,
     } = run_and_deliver(
-        &rt,
+        threads,
         rt,
         lines_of(rt),
         report_of(rt, asked),
@@ -326,7 +332,7 @@ fn main(rt: HostRuntime) -> ExitCode {
     };
     let words = given(&words);
     let status = match asked_of(words) {
-        Asked::Run(asked) => run_asked(rt, words.unwrap_or(&[]), &asked),
+        Asked::Run(asked) => run_asked(&rt, rt, words.unwrap_or(&[]), &asked),
         Asked::Show(asked) => show_asked(rt, &asked),
         Asked::WrongRun(word) => refuse_run(&rt, word),
         Asked::WrongShow(word) => refuse_show(&rt, word),

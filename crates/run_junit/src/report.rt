@@ -16,6 +16,7 @@ use std::mem;
 
 /// Keeps of each finished test and setup script its case, as it is told, and at the end writes the JUnit file of the
 /// run. It refuses no event: where memory is wanting it is given up, and says so at the end.
+#[derive(Drop)]
 pub struct JUnitReport {
     // When the run's clock was 0, in milliseconds since the start of 1970.
     started: Option<u64>,
