@@ -15,7 +15,7 @@ use Rattle.run_events.specs.declared.settings.Settings.{Settings}
 use Rattle.run_engine.specs.Builder.{is_among, is_repeat, refusal_at, refusal_with}
 use Rattle.run_model.specs.Reruns.{is_one_test}
 use Rattle.run_engine.proofs.FewLemmas.{unrefused}
-use Rattle.run_engine.specs.Once.{HasEachIdOnce}
+use Rattle.run_model.specs.Once.{HasEachIdOnce}
 
 -- the ids of some tests
 abbrev pub ids_of : List PlanTest → List TestInstanceId

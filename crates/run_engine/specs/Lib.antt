@@ -11,5 +11,4 @@ pub mod Unkept
 pub mod Lean
 pub mod Handlers
 pub mod Names
-pub mod Once
 pub mod Builder

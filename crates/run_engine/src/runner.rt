@@ -8,7 +8,7 @@ ghost use Rattle.run_model.specs.Board.{board};
 ghost use Rattle.run_state.specs.Held.{held};
 ghost use Rattle.run_engine.specs.World.{outside};
 ghost use Rattle.run_engine.specs.Handlers.{handler_status};
-ghost use Rattle.run_engine.specs.Once.{HasEachIdOnce};
+ghost use Rattle.run_model.specs.Once.{HasEachIdOnce};
 ghost use Rattle.run_engine.specs.Standing.{sound};
 ghost use Rattle.run_engine.specs.Execution.{Carries, Executes, AnswersCourse, UnlessMemory, IsFinal};
 ghost use Rattle.run_engine.specs.Broken.{RunsOut};
@@ -44,7 +44,7 @@ impl Model for TestRunner {
     ghost use Rattle.run_model.specs.Admission.{AreFew};
     ghost use Rattle.run_model.specs.Reruns.{AreAscending};
     ghost use Rattle.run_events.specs.declared.settings.Settings.{Settings};
-    ghost use Rattle.run_engine.specs.Once.{HasEachIdOnce};
+    ghost use Rattle.run_model.specs.Once.{HasEachIdOnce};
 
     ghost Value = { Settings };
 

@@ -18,7 +18,7 @@ use Rattle.run_model.specs.Words.{told}
 use Rattle.run_laws.specs.Reports.{SlowReport, report_of_kind}
 use Rattle.run_laws_events.specs.Names.{IsTestNamed, NamesThePlanIn}
 use Rattle.run_laws_events.proofs.Told.{All-before}
-use Rattle.run_engine.specs.Once.{HasEachIdOnce}
+use Rattle.run_model.specs.Once.{HasEachIdOnce}
 use Rattle.run_laws_display.specs.Displays.{FindsItsTest, tests_displayed, is_displayed, test_begun}
 use Rattle.run_laws_display.specs.Displays.{test_going_on}
 use Rattle.run_laws_display.proofs.CourseLemmas.{IsCourse, course_first, course_goes_on, course_shown, course_starts}

@@ -18,7 +18,7 @@ use Rattle.run_model.specs.Accounts.{News, started, failed, retried, finished, s
 use Rattle.run_model.specs.Admission.{scripts_in}
 use Rattle.run_progress.specs.Deeds.{deed_of}
 use Rattle.run_laws_events.specs.Names.{IsScriptNamed, NamesThePlanIn, script_named, test_of_unit}
-use Rattle.run_engine.specs.Once.{HasEachIdOnce}
+use Rattle.run_model.specs.Once.{HasEachIdOnce}
 use Rattle.run_laws_display.specs.Displays.{tests_displayed, events_heard, is_displayed}
 use Rattle.run_laws_display.proofs.CourseLemmas.{shown_after_news, shown_with}
 use Rattle.run_laws_display.proofs.SameLemmas.{named_same, test_at}

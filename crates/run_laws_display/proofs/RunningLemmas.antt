@@ -21,7 +21,7 @@ use Rattle.run_progress.specs.declared.running_test.RunningTestStatus.TheVariant
 use Rattle.run_progress.specs.Deeds.{deed_of, paused_in, starts}
 use Rattle.run_progress.specs.Display.{display, is_replaced, running_after, running_test, started_by}
 use Rattle.run_laws_events.specs.Names.{IsTestNamed, NamesThePlanIn, test_of_unit}
-use Rattle.run_engine.specs.Once.{HasEachIdOnce}
+use Rattle.run_model.specs.Once.{HasEachIdOnce}
 use Rattle.run_laws_display.specs.Displays.{IsOfPlan, tests_displayed, events_heard, is_displayed}
 use Rattle.run_laws_display.proofs.CourseLemmas.{course_shown}
 use Rattle.run_laws_display.proofs.NewsLemmas.{displayed_news}

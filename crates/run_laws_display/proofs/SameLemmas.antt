@@ -16,7 +16,7 @@ use Rattle.run_events.specs.declared.stress.StressIndex.{StressIndex}
 use Rattle.run_model.specs.Admission.{is_script, scripts_in, tests_in, units_in}
 use Rattle.run_progress.specs.Deeds.{is_same}
 use Rattle.run_laws_events.specs.Names.{IsTestNamed, test_named, test_of_unit}
-use Rattle.run_engine.specs.Once.{HasEachIdOnce}
+use Rattle.run_model.specs.Once.{HasEachIdOnce}
 use Rattle.run_engine.proofs.OnceLemmas.{id_at, ids_of}
 
 abbrev id_with : List ℕ → List ℕ → TestInstanceId

@@ -18,7 +18,7 @@ use Rattle.run_model.specs.declared.entry.Entry.{Entry}
 use Rattle.run_model.specs.Journal.{IsLegal, past_of}
 use Rattle.run_model.specs.Words.{is_running, sub_run, told}
 use Rattle.run_engine.specs.Builder.{Builder, IsBuilt}
-use Rattle.run_engine.specs.Once.{HasEachIdOnce}
+use Rattle.run_model.specs.Once.{HasEachIdOnce}
 use Rattle.run_progress.specs.declared.running_test.RunningTest.{RunningTest}
 use Rattle.run_progress.specs.Deeds.{is_same}
 use Rattle.run_progress.specs.Display.{display}

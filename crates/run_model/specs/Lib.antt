@@ -15,6 +15,7 @@ pub mod Rounds
 pub mod Words
 pub mod SubRuns
 pub mod Reruns
+pub mod Once
 pub mod Admission
 pub mod Dispatch
 pub mod Board

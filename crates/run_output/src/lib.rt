@@ -47,5 +47,6 @@ pub use line_reporter::LineReporter;
 pub use outcomes::outcome_line;
 pub use progress_reporter::ProgressReporter;
 pub use receipts::{mismatch_line, other_settings_line, repeated_line};
+pub use statuses::{script_status_text, status_text};
 pub use summaries::summary_line;
 pub use turns::turn_line;

@@ -1,5 +1,6 @@
 // Attempts as objects.
 ghost use Rattle.std.specs.Prelude.{◌≡◌, option_map, IfOk};
+ghost use Rattle.serde_json.specs.Written.{compact_text};
 ghost use Rattle.run_output.specs.Fields.{array_of, put_all, rows};
 ghost use Rattle.run_output.specs.Leaf.{leaf_data};
 ghost use Rattle.run_output.specs.Object.{members_of};
@@ -18,7 +19,7 @@ ghost use Rattle.run_output.specs.Statuses.{
 use crate::leaf::Leaf;
 use crate::object::Object;
 use crate::printer::Printer;
-use run_capture::{Blob, ChildOutput, Mem};
+use run_capture::{Blob, ChildOutput, Mem, Text};
 use run_commands::SetupScriptOutputError;
 use run_events::{ChildExecutionOutput, ExecuteStatus, ScriptEnv, SetupScriptExecuteStatus};
 use std::alloc::Global;
@@ -84,6 +85,16 @@ pub(crate) fn print_status(alloc: Global, out: &mut Printer, status: &ExecuteSta
     with_streams(object, &status.output)?.print(alloc, out)
 }
 
+/// The object of an attempt, as the lines of its events have it.
+#[tactic(auto, using(crate::proofs::PrintLemmas::print_data))]
+pub fn status_text(alloc: Global, status: &ExecuteStatus) -> Mem<Text>
+    ensures { IfOk result (λ t. t ≡ compact_text (status_data status.now)) }
+{
+    let mut out = Printer::new(alloc)?;
+    print_status(alloc, &mut out, status)?;
+    out.into_text(alloc)
+}
+
 /// The attempts of a test, in order.
 pub(crate) fn print_statuses(
     alloc: Global,
@@ -145,4 +156,14 @@ pub(crate) fn print_script_status(
 {
     let object = Object::of(alloc, &script_attempt(status))?;
     with_streams(object, &status.output)?.print(alloc, out)
+}
+
+/// The object of a setup script's attempt, as the line of its event has it.
+#[tactic(auto, using(crate::proofs::PrintLemmas::print_data))]
+pub fn script_status_text(alloc: Global, status: &SetupScriptExecuteStatus) -> Mem<Text>
+    ensures { IfOk result (λ t. t ≡ compact_text (script_status_data status.now)) }
+{
+    let mut out = Printer::new(alloc)?;
+    print_script_status(alloc, &mut out, status)?;
+    out.into_text(alloc)
 }

@@ -1,5 +1,5 @@
 use Rattle.run_engine.specs.Builder.{threads_of}
-use Rattle.run_engine.specs.Once.{HasEachIdOnce}
+use Rattle.run_model.specs.Once.{HasEachIdOnce}
 use Rattle.std.proofs.Common.{subst, sym}
 use Rattle.run_engine.proofs.OnceLemmas.{built_once}
 use Rattle.run_engine.specs.Builder.{settings_of}

@@ -1,7 +1,7 @@
 use Rattle.std.proofs.Common.{sym, subst, ◌∙◌}
 use Rattle.run_model.specs.Admission.{AreFew}
 use Rattle.run_engine.specs.Builder.{threads_of, settings_of}
-use Rattle.run_engine.specs.Once.{HasEachIdOnce}
+use Rattle.run_model.specs.Once.{HasEachIdOnce}
 use Rattle.run_engine.proofs.FewLemmas.{few_attempts}
 use Rattle.run_engine.proofs.OnceLemmas.{built_once}
 use Rattle.run_engine.proofs.builder.TestRunnerBuilder.build.Goals as goal
