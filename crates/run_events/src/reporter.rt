@@ -4,7 +4,7 @@ ghost use Rattle.run_capture.specs.Faults.{Rose};
 ghost use Rattle.run_events.specs.Tell.{answered, Adds};
 ghost use Rattle.run_events.specs.Counts.{CountsRefusal};
 
-use crate::ReporterEvent;
+use crate::{ReporterEvent, Turn};
 use run_capture::OutOfMemory;
 use std::alloc::Global;
 use thiserror::Error;
@@ -40,4 +40,10 @@ pub trait Reporter {
     ) -> Result<(), ReportFault<Self::Error>>
         ensures told { Adds told self.old self.new (answered event.now result) }
         ensures fault { CountsRefusal (faults self.old) (faults self.new) result };
+
+    /// Hears that the run has taken a turn, whose events it was told before. Most reporters don't heed it.
+    fn took(&mut self, _alloc: Global, _turn: &Turn)
+        ensures told { (list : List (ReporterEvent × Option Self.Error)) → told self.old list → told self.new list }
+        ensures faults { faults self.new ≡ faults self.old }
+    {}
 }

@@ -3,7 +3,7 @@ ghost use Rattle.std.specs.Prelude.{◌≡◌, IfSome, List as Items};
 ghost use Rattle.run_events.specs.declared.events.ReporterEvent.{ReporterEvent as Event};
 ghost use Rattle.run_events.specs.Tell.{Adds};
 
-use run_events::ReporterEvent;
+use run_events::{ReporterEvent, Turn};
 use run_report::Listener;
 use std::alloc::Global;
 
@@ -43,6 +43,13 @@ impl<A: Listener, B: Listener> Listener for Pair<A, B> {
         self.first.hear(alloc, event);
         if let Some(second) = &mut self.second {
             second.hear(alloc, event);
+        }
+    }
+
+    fn hear_turn(&mut self, alloc: Global, turn: &Turn) {
+        self.first.hear_turn(alloc, turn);
+        if let Some(second) = &mut self.second {
+            second.hear_turn(alloc, turn);
         }
     }
 }

@@ -4,7 +4,7 @@ ghost use Rattle.run_events.specs.Tell.{answered, Adds};
 ghost use Rattle.run_events.specs.Counts.{CountsRefusal};
 
 use crate::Listener;
-use run_events::{ReportFault, Reporter, ReporterEvent};
+use run_events::{ReportFault, Reporter, ReporterEvent, Turn};
 use std::alloc::Global;
 
 /// Tells each event to a reporter, and then to a listener, unless the reporter refused it, or memory was wanting to it:
@@ -61,5 +61,10 @@ impl<A: Reporter, B: Listener> Reporter for Both<A, B> {
             }
             Err(fault) => Err(fault),
         }
+    }
+
+    fn took(&mut self, alloc: Global, turn: &Turn) {
+        self.lines.took(alloc, turn);
+        self.report.hear_turn(alloc, turn);
     }
 }

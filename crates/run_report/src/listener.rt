@@ -3,7 +3,7 @@ ghost use Rattle.std.specs.Prelude.{◌∷◌, []};
 ghost use Rattle.run_events.specs.Tell.{Adds};
 
 use run_capture::Failed;
-use run_events::ReporterEvent;
+use run_events::{ReporterEvent, Turn};
 use std::alloc::Global;
 
 /// Who hears the events of a run. It needn't store them: that it has heard a list is a relation.
@@ -17,6 +17,11 @@ pub trait Listener {
     /// Hears an event.
     fn hear(&mut self, alloc: Global, event: &ReporterEvent)
         ensures heard { Adds heard self.old self.new (event.now ∷ []) };
+
+    /// Hears that the run has taken a turn, whose events it has heard before. Most listeners don't heed it.
+    fn hear_turn(&mut self, _alloc: Global, _turn: &Turn)
+        ensures heard { (events : List ReporterEvent) → heard self.old events → heard self.new events }
+    {}
 }
 
 /// Who writes what it hears, and can show a text at its end until it writes more.

@@ -1,7 +1,8 @@
 // What stands under the lock.
 ghost use Rattle.std.specs.Prelude.{◌≡◌, ◌<◌, ◌+◌, [], length, IfOk, IfErr, OnOk, OnErr, IsErrOf, IfSome, IsSome};
-ghost use Rattle.std.specs.Prelude.{IsNone, Option, option_map, slice_get, true, false, if◌then◌else◌};
+ghost use Rattle.std.specs.Prelude.{IsNone, List, Option, option_map, slice_get, true, false, if◌then◌else◌};
 ghost use Rattle.std.specs.List.{sum_by};
+ghost use Rattle.run_events.specs.declared.events.ReporterEvent.{ReporterEvent};
 ghost use Rattle.run_model.specs.Words.{is_over};
 ghost use Rattle.run_engine.specs.World.{Breaks, history_of};
 ghost use Rattle.run_engine.specs.Standing.{sound, IsRunnable};
@@ -86,6 +87,7 @@ impl<L: Ledger, R: Reporter> Locked<L, R> {
             ..
         } = self;
         let place = run.step(alloc, turn, asks, report)?;
+        tell_newest(alloc, run, report);
         book.add(share, 1);
         Ok(place)
     }
@@ -119,6 +121,7 @@ impl<L: Ledger, R: Reporter> Locked<L, R> {
         let Some(turn) = run.settle(alloc, word, asks, report)? else {
             return Ok(None);
         };
+        tell_newest(alloc, run, report);
         book.add(share, 1);
         Ok(Some((place, turn)))
     }
@@ -179,6 +182,15 @@ impl<L: Ledger, R: Reporter> Locked<L, R> {
         gather(&mut all, shares);
         book.audit(&mut all);
         (run, asks, report)
+    }
+}
+
+// Tells a reporter of the newest turn of a run.
+fn tell_newest<R: Reporter>(alloc: Global, run: &Run, report: &mut R)
+    ensures { (events : List (ReporterEvent × Option R.Error)) → R.told report.old events → R.told report.new events }
+{
+    if let Some(entry) = run.journal().last() {
+        report.took(alloc, &entry.turn);
     }
 }
 
