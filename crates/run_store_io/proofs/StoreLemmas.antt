@@ -51,7 +51,7 @@ front_append plan xs ys rest =
     ∙ sym (front_then plan xs (turn_records ys ++ rest))
 
 -- a part of what stands before the last record is a part of the store text
-front_part : (start after : Option (List ℕ)) (plan : List ℕ) (turns tried later : List Turn)
+pub front_part : (start after : Option (List ℕ)) (plan : List ℕ) (turns tried later : List Turn)
     → turns ≡ tried ++ later → TakesUpTo start after (front plan tried) → TakesPart start after (store_text plan turns)
 front_part start after plan turns tried later split (part, left, is, took) =
     let last : List ℕ = end_record (length turns) in
