@@ -1,1 +1,4 @@
 mod RecordLemmas
+mod KeptLemmas
+mod TurnLemmas
+mod HeardLemmas

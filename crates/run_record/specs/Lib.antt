@@ -1,3 +1,3 @@
 pub mod Statuses
 pub mod Recorded
-pub mod Begun
+pub mod Kept

@@ -1,8 +1,10 @@
-//! The recorded run of a plan: the run of the layer below, of which a second sink takes the store. It stands on that
-//! run, and on the writer of stores.
+//! The recorded run of a plan: the run of the layer below, of which a second sink takes the store, each turn as the run
+//! takes it. It stands on that run, and on the writer of stores.
 #![tactic(auto)]
 
+mod agreeing;
 mod filling;
+mod keeping;
 mod outcome;
 mod top;
 

@@ -15,6 +15,8 @@ pub enum RecordOutcome {
     Unstorable,
     /// Memory was wanting.
     NoMemory,
+    /// Other turns were told of than the journal has.
+    OtherTurns,
 }
 
 /// Whether a run with this status is over: it has an outcome, or an event of it was refused.
@@ -31,7 +33,7 @@ impl RecordOutcome {
     {
         match self {
             RecordOutcome::Recorded | RecordOutcome::Planless => status,
-            RecordOutcome::Unwritten => 9,
+            RecordOutcome::Unwritten | RecordOutcome::OtherTurns => 9,
             RecordOutcome::Unstorable => 12,
             RecordOutcome::NoMemory => 11,
         }

@@ -1,14 +1,17 @@
 // The top call: the run of a plan line, and its record.
-ghost use Rattle.std.specs.Prelude.{◌≡◌, [], IfSome, true};
+ghost use Rattle.std.specs.Prelude.{◌≡◌, [], List, IfSome, true};
+ghost use Rattle.run_events.specs.declared.turn.Turn.{Turn as TurnValue};
 ghost use Rattle.run_laws.specs.Course.{turns_of};
 ghost use Rattle.run_cli.specs.Call.{writing_of};
 ghost use Rattle.run_cli.specs.Live.{is_unbegun};
 ghost use Rattle.run_whole_cli.specs.Hears.{HasHeardPlan};
 ghost use Rattle.run_whole_cli.specs.Relations.{relations};
-ghost use Rattle.run_record.specs.Recorded.{AnswersRecorded, turns_left};
+ghost use Rattle.run_record.specs.Kept.{writing_since};
+ghost use Rattle.run_record.specs.Recorded.{AnswersRecorded, IsRunRecord, turns_left};
 
 use crate::RecordOutcome;
-use crate::filling::{begin, finish};
+use crate::filling::begin;
+use crate::keeping::{Keeping, RecordOrigin, Recording};
 use crate::outcome::is_over;
 use run_capture::Sink;
 use run_drive::Ticker;
@@ -17,6 +20,7 @@ use run_model::Entry;
 use run_report::Listener;
 use run_whole_cli::{Around, Ran, WholeLeft, run_plan};
 use std::alloc::Global;
+use std::marker::Brand;
 use std::sync::Wait;
 use std::thread::Threads;
 
@@ -33,25 +37,98 @@ pub struct Recorded<K, F, L, B> {
 
 // The journal of what is left of a run.
 fn journal_of<W: Keeper + Drop, T: Ticker + Drop, O: Outside + Drop, S: Halter + Drop>(
-    left: &Option<WholeLeft<W, T, O, S>>,
+    left: &WholeLeft<W, T, O, S>,
 ) -> &[Entry]
     ensures { turns_of result.now ≡ turns_left left.now }
 {
     match left {
-        Some(WholeLeft::Run(run)) => run.journal.as_slice(),
-        Some(WholeLeft::CutOff(cut_off)) => cut_off.journal.as_slice(),
-        None => &[],
+        WholeLeft::Run(run) => run.journal.as_slice(),
+        WholeLeft::CutOff(cut_off) => cut_off.journal.as_slice(),
+    }
+}
+
+// Ends the record of a run of which this is left.
+fn end_record<
+    F: Sink,
+    G: RecordOrigin,
+    W: Keeper + Drop,
+    T: Ticker + Drop,
+    O: Outside + Drop,
+    S: Halter + Drop,
+>(keeping: Keeping<F, G>, left: &Option<WholeLeft<W, T, O, S>>, over: bool) -> (RecordOutcome, F)
+    ensures { (turns : List TurnValue) × IfSome left.now (λ l. turns ≡ turns_left l)
+        × IsRunRecord over G.plan_line turns (writing_since F.Sink G.taken_before G.faults_before result.1) result.0 }
+{
+    match left {
+        Some(left) => keeping.finish(Some(journal_of(left)), over),
+        None => keeping.finish(None, over),
+    }
+}
+
+// Runs the plan of a line and records it, with the beginning of its record as the type's.
+fn run_at<
+    K: Sink + Send,
+    F: Sink + Send,
+    B: Listener + Send,
+    H: KeeperHost,
+    O: Outside + Send + Drop,
+    S: Halter + Send + Drop,
+    G: RecordOrigin + Send,
+    X: Threads + Wait + Sync,
+>(
+    rt: &X,
+    alloc: Global,
+    line: &[u8],
+    sink: K,
+    store: F,
+    report: B,
+    host: &mut H,
+    around: Around<O, S>,
+) -> Recorded<K, F, WholeLeft<H::Worker, H::Tick, O, S>, B>
+    requires quiet { O.has_come around.outside [] }
+    requires runs { S.has_halted around.halter 0 }
+    requires unheard { B.heard report [] }
+    requires taken { G.taken_before ≡ F.taken store }
+    requires faults { G.faults_before ≡ F.faults store }
+    requires plan { G.plan_line ≡ line.now }
+    ensures says { AnswersRecorded (relations H.Worker.has_heard H.Tick.has_told O.has_come S.has_halted) line.now
+        (writing_of K.Sink sink result.ran.sink) (writing_of F.Sink store result.store) result.left
+        result.own result.outcome result.ran.status }
+    ensures heard { IfSome result.left (HasHeardPlan B.heard result.report line.now) }
+    ensures unused { is_unbegun result.own ≡ true → host.new ≡ host.old }
+{
+    let recording = Recording {
+        report,
+        keeping: Keeping::<F, G>::new(begin(alloc, line, store)),
+    };
+    let (Ran { status: own, sink }, left, recording) = run_plan(
+        rt, alloc, line, sink, recording, host, around,
+    );
+    let Recording { report, keeping } = recording;
+    let (outcome, store) = end_record(keeping, &left, is_over(own));
+    let ran = Ran {
+        status: outcome.status(own),
+        sink,
+    };
+    Recorded {
+        ran,
+        own,
+        outcome,
+        store,
+        left,
+        report,
     }
 }
 
 /// Runs the plan that a line says, as `run_plan` does, and records it: a second sink takes the store of the plan line
-/// before anything runs, and once the run has ended the turns that it took, and the store's end where it is over. What
-/// each status says stands in `AnswersRecorded`: a run with an outcome that could not be recorded ends with 9 where the
-/// second sink failed, with 12 where a turn's line is longer than 16,777,216 bytes, and with 11 where memory was
-/// wanting; what was recorded is a front part of the store then. Any other run ends as without a record.
+/// before anything runs, each turn once the run has taken it, and the store's end where the run is over. So what the
+/// sink has at any moment is read back up to there. What each status says stands in `AnswersRecorded`: a run with an
+/// outcome that could not be recorded ends with 9 where the second sink failed, with 12 where a turn's line is longer
+/// than 16,777,216 bytes, and with 11 where memory was wanting; what was recorded is a front part of the store then.
+/// Any other run ends as without a record.
 pub fn run_recorded<
     K: Sink + Send,
-    F: Sink,
+    F: Sink + Send,
     B: Listener + Send,
     H: KeeperHost,
     O: Outside + Send + Drop,
@@ -76,21 +153,5 @@ pub fn run_recorded<
     ensures heard { IfSome result.left (HasHeardPlan B.heard result.report line.now) }
     ensures unused { is_unbegun result.own ≡ true → host.new ≡ host.old }
 {
-    let begun = begin(alloc, line, store);
-    let (Ran { status: own, sink }, left, report) = run_plan(
-        rt, alloc, line, sink, report, host, around,
-    );
-    let (outcome, store) = finish(alloc, begun, journal_of(&left), is_over(own));
-    let ran = Ran {
-        status: outcome.status(own),
-        sink,
-    };
-    Recorded {
-        ran,
-        own,
-        outcome,
-        store,
-        left,
-        report,
-    }
+    run_at::<K, F, B, H, O, S, Brand, X>(rt, alloc, line, sink, store, report, host, around)
 }
