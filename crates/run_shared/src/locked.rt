@@ -1,8 +1,8 @@
 // What stands under the lock.
 ghost use Rattle.std.specs.Prelude.{◌≡◌, ◌<◌, ◌+◌, [], length, IfOk, IfErr, OnOk, OnErr, IsErrOf, IfSome, IsSome};
-ghost use Rattle.std.specs.Prelude.{IsNone, List, Option, option_map, slice_get, true, false, if◌then◌else◌};
+ghost use Rattle.std.specs.Prelude.{IsNone, ℕ, List, Option, option_map, slice_get, true, false, if◌then◌else◌};
 ghost use Rattle.std.specs.List.{sum_by};
-ghost use Rattle.run_events.specs.declared.events.ReporterEvent.{ReporterEvent};
+ghost use Rattle.run_events.specs.declared.ask.Ask.{Ask as AskMade};
 ghost use Rattle.run_model.specs.Words.{is_over};
 ghost use Rattle.run_engine.specs.World.{Breaks, history_of};
 ghost use Rattle.run_engine.specs.Standing.{sound, IsRunnable};
@@ -187,11 +187,13 @@ impl<L: Ledger, R: Reporter> Locked<L, R> {
 
 // Tells a reporter of the newest turn of a run.
 fn tell_newest<R: Reporter>(alloc: Global, run: &Run, report: &mut R)
-    ensures { (events : List (ReporterEvent × Option R.Error)) → R.told report.old events → R.told report.new events }
+    ensures { (asks : List (ℕ × AskMade)) → IsHeard R.told (λ list xs. list ≡ xs) report.old asks run.now
+        → IsHeard R.told (λ list xs. list ≡ xs) report.new asks run.now }
 {
-    if let Some(entry) = run.journal().last() {
-        report.took(alloc, &entry.turn);
-    }
+    let Some(entry) = run.journal().last() else {
+        return;
+    };
+    report.took(alloc, &entry.turn);
 }
 
 // Merges all shares into one.
