@@ -21,9 +21,9 @@ use Rattle.run_record.specs.declared.outcome.RecordOutcome.TheVariants.{NoMemory
 use Rattle.run_record.proofs.RecordLemmas.{shut_record}
 
 -- a part is a part at most
-pub up_to : {before after : Option (List ℕ)} {bytes : List ℕ} → TakesPart before after bytes
+pub up_to : (before after : Option (List ℕ)) (bytes : List ℕ) → TakesPart before after bytes
     → TakesUpTo before after bytes
-up_to (part, left, some, is, took) = (part, left, is, took)
+up_to before after bytes (part, left, some, is, took) = (part, left, is, took)
 
 module _ {F : Type 0} (s : OfSink F) (taken : Option (List ℕ)) (faults : ℕ) (line : List ℕ) where
   -- of an open store a part is there of each that goes on
@@ -37,7 +37,7 @@ module _ {F : Type 0} (s : OfSink F) (taken : Option (List ℕ)) (faults : ℕ) 
   pub own_part : (turns : List Turn) (w : StoreWriter F) → IsOpen s taken line turns w
       → TakesUpTo taken (s.taken w.sink) (store_text line turns)
   own_part turns w stands =
-      up_to (subst (λ (ts : List Turn). TakesPart taken (s.taken w.sink) (store_text line ts)) (append-nil turns)
+      up_to _ _ _ (subst (λ (ts : List Turn). TakesPart taken (s.taken w.sink) (store_text line ts)) (append-nil turns)
       (open_part turns [] w stands))
 
   -- an open store is given up for want of memory
@@ -67,7 +67,7 @@ module _ {F : Type 0} (s : OfSink F) (taken : Option (List ℕ)) (faults : ℕ) 
       (λ is. subst (λ (ts : List Turn). ¬ HasRoom (length ts) t) (sym (first more)) (long is))
       (subst (λ (ts : List Turn). IsShut s taken line (turns_tried e ts t) v) (sym (first more)) shut) in
       record {
-        part = up_to (at []).1;
+        part = up_to _ _ _ (at []).1;
         stands = λ over more.
             subst (λ (ts : List Turn). IsRunRecord over line ts (writing_since s taken faults v.sink) (outcome_for e))
             (sym (append_assoc turns (t ∷ []) more))

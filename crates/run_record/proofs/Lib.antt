@@ -1,4 +1,5 @@
 mod RecordLemmas
 mod KeptLemmas
 mod TurnLemmas
+mod AgreedLemmas
 mod HeardLemmas

@@ -1,3 +1,4 @@
 pub mod Statuses
 pub mod Recorded
 pub mod Kept
+pub mod Answers

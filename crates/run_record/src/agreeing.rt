@@ -35,9 +35,9 @@ fn are_all(journal: &[Entry], turns: &[Turn]) -> bool
 /// against them.
 pub(crate) fn agree(journal: Option<&[Entry]>, turns: &[Turn], all: bool) -> bool
     ensures first { result ≡ true → all ≡ false
-        → IfSome journal (λ es. (more : List TurnValue) × (turns_of es.now ≡ turns.now ++ more)) }
-    ensures all { result ≡ true → all ≡ true → IfSome journal (λ es. turns_of es.now ≡ turns.now) }
-    ensures no { result ≡ false → IsSome journal × IfSome journal (λ es. turns.now ≢ turns_of es.now) }
+        → IfSome journal.entry (λ es. (more : List TurnValue) × (turns_of es.now ≡ turns.now ++ more)) }
+    ensures all { result ≡ true → all ≡ true → IfSome journal.entry (λ es. turns_of es.now ≡ turns.now) }
+    ensures no { result ≡ false → IsSome journal.entry × IfSome journal.entry (λ es. turns.now ≢ turns_of es.now) }
 {
     match journal {
         None => true,

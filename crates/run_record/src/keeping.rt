@@ -7,7 +7,7 @@ ghost use Rattle.run_record.specs.Recorded.{IsRunRecord};
 
 use crate::RecordOutcome;
 use crate::agreeing::agree;
-use crate::filling::{Begun, add_turn, end};
+use crate::filling::{Begun, add_to, end};
 use run_capture::{List as Items, Sink};
 use run_events::{ReporterEvent, Turn};
 use run_model::Entry;
@@ -46,6 +46,8 @@ pub(crate) struct Keeping<F: Sink, G: RecordOrigin> {
 }
 
 impl<F: Sink, G: RecordOrigin> Model for Keeping<F, G> {
+    ghost use Rattle.std.specs.Prelude.{List};
+    ghost use Rattle.run_events.specs.declared.turn.Turn.{Turn as TurnValue};
     ghost use Rattle.run_record.specs.Kept.{IsKept};
 
     ghost Value = { List TurnValue };
@@ -76,17 +78,12 @@ impl<F: Sink, G: RecordOrigin> Keeping<F, G> {
             given_up,
             ..
         } = self;
-        match begun {
-            Ok(writer) if given_up.is_none() => {
-                *given_up = add_turn(alloc, writer, turns, turn);
-            }
-            _ => {}
-        }
+        *given_up = add_to(alloc, begun, turns, *given_up, turn);
     }
 
     /// Ends the record of a run of which this journal is left, with the store's end where it is over.
     pub(crate) fn finish(self, journal: Option<&[Entry]>, over: bool) -> (RecordOutcome, F)
-        ensures { (turns : List TurnValue) × IfSome journal (λ es. turns ≡ turns_of es.now)
+        ensures { (turns : List TurnValue) × IfSome journal.entry (λ es. turns ≡ turns_of es.now)
             × IsRunRecord over G.plan_line turns (writing_since F.Sink G.taken_before G.faults_before result.1)
             result.0 }
     {

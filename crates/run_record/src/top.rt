@@ -7,7 +7,8 @@ ghost use Rattle.run_cli.specs.Live.{is_unbegun};
 ghost use Rattle.run_whole_cli.specs.Hears.{HasHeardPlan};
 ghost use Rattle.run_whole_cli.specs.Relations.{relations};
 ghost use Rattle.run_record.specs.Kept.{writing_since};
-ghost use Rattle.run_record.specs.Recorded.{AnswersRecorded, IsRunRecord, turns_left};
+ghost use Rattle.run_record.specs.Answers.{AnswersRecorded, turns_left};
+ghost use Rattle.run_record.specs.Recorded.{IsRunRecord};
 
 use crate::RecordOutcome;
 use crate::filling::begin;
