@@ -32,23 +32,6 @@ heard_at_first tells asks r c p told asked = record {
   room = inl (refl, refl);
 }
 
--- a reporter that holds all that it held has told the same
-pub told_on : {R E C : Type 0} (tells : R → List (ReporterEvent × Option E) → Type 0)
-    (asks : C → List (ℕ × Ask) → Type 0) (r q : R) (c : C) (w : World)
-    → ((events : List (ReporterEvent × Option E)) → tells r events → tells q events) → IsHeard tells asks r c w
-    → IsHeard tells asks q c w
-told_on tells asks r q c w holds h = record {
-  events = h.events;
-  told = holds h.events h.told;
-  extra = h.extra;
-  sent = h.sent;
-  flags = h.flags;
-  asked = h.asked;
-  part = h.part;
-  whole = h.whole;
-  room = h.room;
-}
-
 -- a turn that was taken adds its entry
 pub adds_turn : {R E C : Type 0} (tells : R → List (ReporterEvent × Option E) → Type 0)
     (asks : C → List (ℕ × Ask) → Type 0) (o : Outside R C) (turn : Turn) (old new : World) (refusal : Option E)
