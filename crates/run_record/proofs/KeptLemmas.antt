@@ -15,7 +15,7 @@ use Rattle.run_store_io.specs.declared.error.StoreError.TheVariants as errors
 use Rattle.run_store_io.specs.declared.writer.StoreWriter.{StoreWriter}
 use Rattle.run_store_io.proofs.StoreLemmas.{front_part, refused_at}
 use Rattle.run_record.specs.Recorded.{IsRunRecord}
-use Rattle.run_record.specs.Kept.{IsGivenUp, IsRecordKept, outcome_for, writing_since}
+use Rattle.run_record.specs.Kept.{IsGivenUp, IsUnderway, outcome_for, writing_since}
 use Rattle.run_record.specs.declared.outcome.RecordOutcome.{RecordOutcome}
 use Rattle.run_record.specs.declared.outcome.RecordOutcome.TheVariants.{NoMemory}
 use Rattle.run_record.proofs.RecordLemmas.{shut_record}
@@ -41,8 +41,8 @@ module _ {F : Type 0} (s : OfSink F) (taken : Option (List ℕ)) (faults : ℕ) 
       (open_part turns [] w stands))
 
   -- an open store is given up for want of memory
-  pub no_memory : (turns : List Turn) (w : StoreWriter F) → IsRecordKept s taken faults line (Ok w) turns None
-      → IsRecordKept s taken faults line (Ok w) turns (Some NoMemory)
+  pub no_memory : (turns : List Turn) (w : StoreWriter F) → IsUnderway s taken faults line (Ok w) turns None
+      → IsUnderway s taken faults line (Ok w) turns (Some NoMemory)
   no_memory turns w (stands, same) = record {
     part = own_part turns w stands;
     stands = λ over more. (inr (open_part turns more w stands), same);
@@ -50,10 +50,10 @@ module _ {F : Type 0} (s : OfSink F) (taken : Option (List ℕ)) (faults : ℕ) 
 
   -- and where a turn is refused
   pub refused : (turns : List Turn) (t : Turn) (e : StoreError) (w v : StoreWriter F)
-      → IsRecordKept s taken faults line (Ok w) turns None → is_turn_error e ≡ true → ¬ (e ≡ errors.Closed)
+      → IsUnderway s taken faults line (Ok w) turns None → is_turn_error e ≡ true → ¬ (e ≡ errors.Closed)
       → (e ≡ errors.TooLong → ¬ HasRoom (length turns) t) → IsShut s taken line (turns_tried e turns t) v
       → RoseExactlyIf (is_write_error e) (s.faults w.sink) (s.faults v.sink)
-      → IsRecordKept s taken faults line (Ok v) (turns ++ t ∷ []) (Some (outcome_for e))
+      → IsUnderway s taken faults line (Ok v) (turns ++ t ∷ []) (Some (outcome_for e))
   refused turns t e w v (stands, same) known unclosed long shut fault =
       let rose = subst (λ (n : ℕ). RoseExactlyIf (is_write_error e) n (s.faults v.sink)) same fault in
       let first : (more : List Turn) → take (length turns) (turns ++ t ∷ more) ≡ turns =
@@ -76,7 +76,7 @@ module _ {F : Type 0} (s : OfSink F) (taken : Option (List ℕ)) (faults : ℕ) 
 
   -- one that was given up is the record of a run that took its turns first
   pub given_up_first : (turns all : List Turn) (w : StoreWriter F) (end : RecordOutcome) (over : Bool)
-      → IsRecordKept s taken faults line (Ok w) turns (Some end) → (more : List Turn) × (all ≡ turns ++ more)
+      → IsUnderway s taken faults line (Ok w) turns (Some end) → (more : List Turn) × (all ≡ turns ++ more)
       → IsRunRecord over line all (writing_since s taken faults w.sink) end
   given_up_first turns all w end over kept (more, is) =
       subst (λ (ts : List Turn). IsRunRecord over line ts (writing_since s taken faults w.sink) end) (sym is)
@@ -84,6 +84,6 @@ module _ {F : Type 0} (s : OfSink F) (taken : Option (List ℕ)) (faults : ℕ) 
 
   -- it has a part of the store of its own turns
   pub kept_part : (turns : List Turn) (w : StoreWriter F) (given_up : Option RecordOutcome)
-      → IsRecordKept s taken faults line (Ok w) turns given_up → TakesUpTo taken (s.taken w.sink) (store_text line turns)
+      → IsUnderway s taken faults line (Ok w) turns given_up → TakesUpTo taken (s.taken w.sink) (store_text line turns)
   kept_part turns w None (stands, same) = own_part turns w stands
   kept_part turns w (Some end) kept = kept.part

@@ -28,11 +28,11 @@ pub record IsGivenUp {F : Type 0} (s : OfSink F) (taken : Option (List ℕ)) (fa
 
 -- a store of this plan line that was told of these turns, whose sink had taken those bytes and failed so often before:
 -- it has them all; or it was given up; or it wasn't begun, whatever turns the run takes
-abbrev pub IsRecordKept : {F : Type 0} → OfSink F → Option (List ℕ) → ℕ → List ℕ
+abbrev pub IsUnderway : {F : Type 0} → OfSink F → Option (List ℕ) → ℕ → List ℕ
     → Result (StoreWriter F) (RecordOutcome × F) → List Turn → Option RecordOutcome → Type 0
-IsRecordKept s taken faults line (Ok w) turns None = IsOpen s taken line turns w × (s.faults (sink_of w) ≡ faults)
-IsRecordKept s taken faults line (Ok w) turns (Some end) = IsGivenUp s taken faults line turns (sink_of w) end
-IsRecordKept s taken faults line (Err e) turns given_up =
+IsUnderway s taken faults line (Ok w) turns None = IsOpen s taken line turns w × (s.faults (sink_of w) ≡ faults)
+IsUnderway s taken faults line (Ok w) turns (Some end) = IsGivenUp s taken faults line turns (sink_of w) end
+IsUnderway s taken faults line (Err e) turns given_up =
     (over : Bool) (all : List Turn) → IsRunRecord over line all (writing_since s taken faults e.1) e.0
 
 -- what becomes of a record, by why its store wasn't written

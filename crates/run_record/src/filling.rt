@@ -3,7 +3,7 @@ ghost use Rattle.std.specs.Prelude.{◌≡◌, ◌∷◌, ◌++◌, [], ℕ, Lis
 ghost use Rattle.run_events.specs.declared.turn.Turn.{Turn as TurnValue};
 ghost use Rattle.run_store.specs.Stores.{is_plan_payload};
 ghost use Rattle.run_store_io.specs.Written.{IsOpen, is_closed, sink_of};
-ghost use Rattle.run_record.specs.Kept.{IsRecordKept, outcome_for, writing_since};
+ghost use Rattle.run_record.specs.Kept.{IsUnderway, outcome_for, writing_since};
 ghost use Rattle.run_record.specs.Recorded.{IsRunRecord};
 
 use crate::RecordOutcome;
@@ -29,7 +29,7 @@ fn outcome_for(error: StoreError) -> RecordOutcome
 // Begins a store with its plan line.
 fn begin_with<F: Sink>(line: &[u8], sink: F) -> Begun<F>
     requires { is_plan_payload line.now ≡ true }
-    ensures { IsRecordKept F.Sink (F.taken sink) (F.faults sink) line.now result [] None }
+    ensures { IsUnderway F.Sink (F.taken sink) (F.faults sink) line.now result [] None }
 {
     match StoreWriter::begin(sink, line) {
         Ok(writer) => Ok(writer),
@@ -39,7 +39,7 @@ fn begin_with<F: Sink>(line: &[u8], sink: F) -> Begun<F>
 
 // Begins the store of a run, if its line is a plan line.
 pub(crate) fn begin<F: Sink>(alloc: Global, line: &[u8], sink: F) -> Begun<F>
-    ensures { IsRecordKept F.Sink (F.taken sink) (F.faults sink) line.now result [] None }
+    ensures { IsUnderway F.Sink (F.taken sink) (F.faults sink) line.now result [] None }
 {
     match is_plan_payload(alloc, line) {
         Ok(true) => begin_with(line, sink),
@@ -65,8 +65,8 @@ fn add_turn<F: Sink>(
     turn: &Turn,
 ) -> Option<RecordOutcome>
     ensures { (taken : Option (List ℕ)) (faults : ℕ) (line : List ℕ)
-        → IsRecordKept F.Sink taken faults line (AnOk writer.old) turns.old None
-        → IsRecordKept F.Sink taken faults line (AnOk writer.new) turns.new result }
+        → IsUnderway F.Sink taken faults line (AnOk writer.old) turns.old None
+        → IsUnderway F.Sink taken faults line (AnOk writer.new) turns.new result }
 {
     let Ok(()) = keep_copy(alloc, turns, turn) else {
         return Some(RecordOutcome::NoMemory);
@@ -86,8 +86,8 @@ pub(crate) fn add_to<F: Sink>(
     turn: &Turn,
 ) -> Option<RecordOutcome>
     ensures { (taken : Option (List ℕ)) (faults : ℕ) (line : List ℕ)
-        → IsRecordKept F.Sink taken faults line begun.old turns.old given_up
-        → IsRecordKept F.Sink taken faults line begun.new turns.new result }
+        → IsUnderway F.Sink taken faults line begun.old turns.old given_up
+        → IsUnderway F.Sink taken faults line begun.new turns.new result }
 {
     match given_up {
         Some(_) => given_up,

@@ -2,7 +2,7 @@
 ghost use Rattle.std.specs.Prelude.{◌≡◌, [], ℕ, List, Option, None, IfSome};
 ghost use Rattle.run_events.specs.declared.turn.Turn.{Turn as TurnValue};
 ghost use Rattle.run_laws.specs.Course.{turns_of};
-ghost use Rattle.run_record.specs.Kept.{IsRecordKept, writing_since};
+ghost use Rattle.run_record.specs.Kept.{IsUnderway, writing_since};
 ghost use Rattle.run_record.specs.Recorded.{IsRunRecord};
 
 use crate::RecordOutcome;
@@ -48,19 +48,19 @@ pub(crate) struct Keeping<F: Sink, G: RecordOrigin> {
 impl<F: Sink, G: RecordOrigin> Model for Keeping<F, G> {
     ghost use Rattle.std.specs.Prelude.{List};
     ghost use Rattle.run_events.specs.declared.turn.Turn.{Turn as TurnValue};
-    ghost use Rattle.run_record.specs.Kept.{IsRecordKept};
+    ghost use Rattle.run_record.specs.Kept.{IsUnderway};
 
     ghost Value = { List TurnValue };
 
     ghost view = { λ k. k.turns };
 
-    ghost invariant = { λ k. IsRecordKept F.Sink G.taken_before G.faults_before G.plan_line k.begun k.turns k.given_up };
+    ghost invariant = { λ k. IsUnderway F.Sink G.taken_before G.faults_before G.plan_line k.begun k.turns k.given_up };
 }
 
 impl<F: Sink, G: RecordOrigin> Keeping<F, G> {
     /// One that was told of no turn.
     pub(crate) fn new(begun: Begun<F>) -> Self
-        requires { IsRecordKept F.Sink G.taken_before G.faults_before G.plan_line begun [] None }
+        requires { IsUnderway F.Sink G.taken_before G.faults_before G.plan_line begun [] None }
     {
         Keeping {
             begun,

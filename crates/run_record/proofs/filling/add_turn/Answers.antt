@@ -2,7 +2,7 @@ use Rattle.std.proofs.Common.{◌∙◌, List, [], ◌∷◌, ◌++◌, Some, Ok
 use Rattle.run_events.specs.declared.turn.Turn.{Turn}
 use Rattle.run_store_io.specs.Written.{IsOpen}
 use Rattle.run_store_io.specs.declared.error.StoreError.{StoreError}
-use Rattle.run_record.specs.Kept.{IsRecordKept}
+use Rattle.run_record.specs.Kept.{IsUnderway}
 use Rattle.run_record.specs.declared.outcome.RecordOutcome.{RecordOutcome}
 use Rattle.run_record.specs.declared.outcome.RecordOutcome.TheVariants.{NoMemory}
 use Rattle.run_record.proofs.KeptLemmas.{no_memory, refused}
@@ -10,7 +10,7 @@ use Rattle.run_record.proofs.filling.add_turn.Goals as goal
 
 pub returns-in_default : goal.returns-in_default
 returns-in_default g c = λ taken faults line kept.
-    subst (λ (ts : List Turn). IsRecordKept g.F.Sink taken faults line (Ok c.args.writer.now) ts (Some NoMemory))
+    subst (λ (ts : List Turn). IsUnderway g.F.Sink taken faults line (Ok c.args.writer.now) ts (Some NoMemory))
     (sym c.in_default.ensures.err) (no_memory g.F.Sink taken faults line c.args.turns.now c.args.writer.now kept)
 
 pub returns-in-Ok-turn : goal.returns-in-Ok-turn
@@ -30,7 +30,7 @@ returns-in-Err g c = λ taken faults line kept.
     (λ is. c.in-Err.ensures.too_long taken line turns kept.0 (ap (λ (x : StoreError). Err x) is))
     (c.in-Err.ensures.err taken line turns kept.0) c.in-Err.ensures.fault in
     subst (λ (ts : List Turn).
-    IsRecordKept g.F.Sink taken faults line (Ok c.turn.new.self) ts (Some c.outcome_for.result)) (sym c.in-Ok.ensures.ok)
+    IsUnderway g.F.Sink taken faults line (Ok c.turn.new.self) ts (Some c.outcome_for.result)) (sym c.in-Ok.ensures.ok)
     (subst (λ (end : RecordOutcome).
-    IsRecordKept g.F.Sink taken faults line (Ok c.turn.new.self) (turns ++ c.args.turn.now ∷ []) (Some end))
+    IsUnderway g.F.Sink taken faults line (Ok c.turn.new.self) (turns ++ c.args.turn.now ∷ []) (Some end))
     (sym c.outcome_for.ensures) given_up)

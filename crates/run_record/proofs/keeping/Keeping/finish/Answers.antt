@@ -4,7 +4,7 @@ use Rattle.run_events.specs.declared.turn.Turn.{Turn}
 use Rattle.run_laws.specs.Course.{turns_of}
 use Rattle.run_store.specs.Stores.{store_text}
 use Rattle.run_store_io.specs.Taken.{TakesUpTo}
-use Rattle.run_record.specs.Kept.{IsRecordKept, writing_since}
+use Rattle.run_record.specs.Kept.{IsUnderway, writing_since}
 use Rattle.run_record.specs.Recorded.{IsRunRecord}
 use Rattle.run_record.specs.declared.outcome.RecordOutcome.{RecordOutcome}
 use Rattle.run_record.proofs.AgreedLemmas.{negated, of_any, of_first, of_others, of_own}
@@ -14,7 +14,7 @@ use Rattle.run_record.proofs.keeping.Keeping.finish.Goals as goal
 pub returns-in-Err : goal.returns-in-Err
 returns-in-Err g c =
     let o = g.G.RecordOrigin in
-    let kept = subst (λ begun. IsRecordKept g.F.Sink o.taken_before o.faults_before o.plan_line begun c.self.inside.turns
+    let kept = subst (λ begun. IsUnderway g.F.Sink o.taken_before o.faults_before o.plan_line begun c.self.inside.turns
     c.self.inside.given_up) c.in-Err.is c.self.invariant in
     of_any (λ es. turns_of es.now) c.self.inside.turns
     (λ ts. IsRunRecord c.args.over o.plan_line ts (writing_since g.F.Sink o.taken_before o.faults_before
@@ -24,7 +24,7 @@ pub returns-then-not-agree : goal.returns-then-not-agree
 returns-then-not-agree g c =
     let o = g.G.RecordOrigin in
     let w = c.in-Ok.writer in
-    let kept = subst (λ begun. IsRecordKept g.F.Sink o.taken_before o.faults_before o.plan_line begun c.self.inside.turns
+    let kept = subst (λ begun. IsUnderway g.F.Sink o.taken_before o.faults_before o.plan_line begun c.self.inside.turns
     c.self.inside.given_up) c.in-Ok.is c.self.invariant in
     let part = kept_part g.F.Sink o.taken_before o.faults_before o.plan_line c.self.inside.turns w
     c.self.inside.given_up kept in
@@ -37,9 +37,9 @@ pub returns-in-Some : goal.returns-in-Some
 returns-in-Some g c =
     let o = g.G.RecordOrigin in
     let w = c.in-Ok.writer in
-    let kept = subst (λ begun. IsRecordKept g.F.Sink o.taken_before o.faults_before o.plan_line begun c.self.inside.turns
+    let kept = subst (λ begun. IsUnderway g.F.Sink o.taken_before o.faults_before o.plan_line begun c.self.inside.turns
     c.self.inside.given_up) c.in-Ok.is c.self.invariant in
-    let given_up = subst (IsRecordKept g.F.Sink o.taken_before o.faults_before o.plan_line (Ok w) c.self.inside.turns)
+    let given_up = subst (IsUnderway g.F.Sink o.taken_before o.faults_before o.plan_line (Ok w) c.self.inside.turns)
     c.in-Some.is kept in
     let some = negated true c.is_none.result
     (subst (λ x. is_some x ≡ not c.is_none.result) c.in-Some.is c.is_none.ensures) in
@@ -53,9 +53,9 @@ pub returns : goal.returns
 returns g c =
     let o = g.G.RecordOrigin in
     let w = c.in-Ok.writer in
-    let kept = subst (λ begun. IsRecordKept g.F.Sink o.taken_before o.faults_before o.plan_line begun c.self.inside.turns
+    let kept = subst (λ begun. IsUnderway g.F.Sink o.taken_before o.faults_before o.plan_line begun c.self.inside.turns
     c.self.inside.given_up) c.in-Ok.is c.self.invariant in
-    let open_still = subst (IsRecordKept g.F.Sink o.taken_before o.faults_before o.plan_line (Ok w) c.self.inside.turns)
+    let open_still = subst (IsUnderway g.F.Sink o.taken_before o.faults_before o.plan_line (Ok w) c.self.inside.turns)
     c.in-None.is kept in
     let none = negated false c.is_none.result
     (subst (λ x. is_some x ≡ not c.is_none.result) c.in-None.is c.is_none.ensures) in
