@@ -11,6 +11,3 @@ always_within (Some s) = tt
 
 pub always_held : {S : Type 0} (now : InParts S (List S)) → HoldsInParts HoldsAlways (All HoldsAlways) now
 always_held now = record { within = always_within now.within; comes = λ k d within. tt }
-
-pub always_again : {S : Type 0} (now : InParts S S) → HoldsInParts HoldsAlways HoldsAlways now
-always_again now = record { within = always_within now.within; comes = tt }

@@ -219,3 +219,11 @@ finish_comes before after own statuses place kept only changes =
       told_stopped before after own (seen.Finished own statuses) place at.0 (seat_finished at.0.1) kept
           (finish_only own statuses) only at.1 is (changes at.0 at.1),
     )
+
+-- any other event tells of none
+pub other_none : (e : AuditEvent)
+    → ((own : TestInstanceId) (slots : TestSlotAssignment) → e ≡ seen.TestStarted own slots → ⊥)
+    → ((own : TestInstanceId) (statuses : List (List ℕ)) → e ≡ seen.Finished own statuses → ⊥) → TellsNone e
+other_none (seen.TestStarted own slots) starts finishes id = absurd (starts own slots refl)
+other_none (seen.Finished own statuses) starts finishes id = absurd (finishes own statuses refl)
+other_none e starts finishes id = (refl, refl)

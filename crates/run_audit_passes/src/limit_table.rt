@@ -13,11 +13,21 @@ use std::alloc::Global;
 use std::collections::BTreeMap;
 
 /// What was told of the tests, by their places, and what those that run take of the limits.
-#[derive(Drop)]
 pub struct LimitTable {
     pub told: BTreeMap<usize, SeatTold>,
     pub all: AllTaken,
     pub groups: GroupsTaken,
+}
+
+// A call of its own, which keeps the proofs of all that hold a table small.
+impl Drop for LimitTable {
+    fn drop(self) {
+        let LimitTable {
+            told: _,
+            all: _,
+            groups: _,
+        } = self;
+    }
 }
 
 /// What was told of the test at a place.

@@ -81,7 +81,8 @@ pub fn limit_place(alloc: Global, settings: &Plan, events: &[AuditEvent]) -> Mem
     requires { HasEachIdOnce settings.now }
     ensures { IfOk result (λ place. (past : List Happening) → IsPlaceOf (KeepsLaw settings.now past 3) events.now place) }
 {
-    let Some(places) = places_of(alloc, settings.plan.tests.as_slice())? else {
+    let found = places_of(alloc, settings.plan.tests.as_slice())?;
+    let Some(places) = found else {
         unreachable!()
     };
     let part = LimitPart::new(alloc, settings, places)?;

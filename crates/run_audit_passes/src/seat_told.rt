@@ -10,11 +10,21 @@ use run_events::{PlanTest, TestSlotAssignment};
 use std::alloc::Global;
 
 /// How often a test was told started and finished, and the slots that it was told last.
-#[derive(Drop)]
 pub struct SeatTold {
     pub started: u64,
     pub finished: u64,
     pub slots: Option<TestSlotAssignment>,
+}
+
+// A call of its own, which keeps the proofs of all that hold one small.
+impl Drop for SeatTold {
+    fn drop(self) {
+        let SeatTold {
+            started: _,
+            finished: _,
+            slots: _,
+        } = self;
+    }
 }
 
 /// One more; without memory for it, where it is too many.
