@@ -1,0 +1,6 @@
+mod JudgeLemmas
+mod RunLemmas
+mod NeedLemmas
+mod StopLemmas
+mod DueLemmas
+mod PartLemmas

@@ -1,0 +1,12 @@
+use Rattle.std.proofs.Common.{map, is_some, sym, ap, subst}
+use Rattle.run_events.specs.declared.plan.PlanTest.{PlanTest}
+use Rattle.run_model.specs.Reruns.{is_one_test}
+use Rattle.run_audit_machines.specs.Accounts.{AreApart}
+use Rattle.run_audit.proofs.NeedLemmas.{apart_once}
+use Rattle.run_audit.proofs.needs.needs_of.Goals as goal
+
+pub unreachable-requires : goal.unreachable-requires
+unreachable-requires c =
+    c.in_ok-places.ensures.none (ap is_some c.in-None.is)
+    (subst (λ tests. AreApart is_one_test (map (λ (test : PlanTest). test.id) tests)) (sym c.as_slice.ensures)
+    (apart_once _ c.requires))
