@@ -1,6 +1,6 @@
-mod EndedLemmas
+pub mod EndedLemmas
 mod ShapeLemmas
-mod EdgeLemmas
+pub mod EdgeLemmas
 mod ListLemmas
 mod KeptLemmas
 mod SumLemmas
@@ -8,16 +8,17 @@ mod BoundEvents
 mod JoinedLemmas
 mod WholeLemmas
 mod JoinedTold
+pub mod SplitLemmas
 mod EachLemmas
 mod AroundLemmas
-mod CancelLemmas
+pub mod CancelLemmas
 mod StatusLemmas
 mod ReadLemmas
-mod IdLemmas
+pub mod IdLemmas
 mod TestLemmas
 mod ScriptOrder
 mod ScriptNewsTold
 mod ScriptLemmas
 mod RunningSeen
 mod LimitLemmas
-mod AllKept
+pub mod AllKept
