@@ -14,7 +14,7 @@ use std::alloc::Global;
 use std::collections::VecDeque;
 
 /// Whether an event closes a part.
-fn closes(stress: bool, event: &ReporterEvent) -> bool
+pub fn closes(stress: bool, event: &ReporterEvent) -> bool
     ensures { result ≡ closes_part stress (as_audited event.now) }
 {
     match event {

@@ -1,6 +1,6 @@
 // What is needed of a plan's settings once its run is carried out.
 ghost use Rattle.std.specs.Prelude.{IfOk};
-ghost use Rattle.run_engine.specs.Once.{HasEachIdOnce};
+ghost use Rattle.run_model.specs.Once.{HasEachIdOnce};
 ghost use Rattle.run_audit.specs.Needs.{AreNeedsOf};
 
 use run_audit_passes::{PlanPlaces, places_of};

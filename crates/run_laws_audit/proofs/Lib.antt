@@ -12,8 +12,9 @@ pub mod SplitLemmas
 mod EachLemmas
 mod AroundLemmas
 pub mod CancelLemmas
-mod StatusLemmas
-mod ReadLemmas
+pub mod StatusLemmas
+pub mod ReadLemmas
+mod PlainLemmas
 pub mod IdLemmas
 mod TestLemmas
 mod ScriptOrder

@@ -222,7 +222,6 @@ on_stays p (e ∷ before) legal = by_run (on_stays p before legal.2) (where_join
             (All-append (StaysOpen (is_stress p)) (map as_audited (told of.base))
             (map as_audited (deed_events (deed_on p (board p past) e.turn)))
             (subst (λ run. All (StaysOpen (is_stress p)) (map as_audited (told run))) (sym (base false begins))
-           
             (was base_on))
             (within_stays (is_stress p) (deed_events (deed_on p (board p past) e.turn))
             (tells_within p past e h legal.0 begins (not_so x.ends (first_so (not x.ends) (x.begins || is_on of.base) on)))))
