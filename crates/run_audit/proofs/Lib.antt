@@ -3,4 +3,8 @@ mod RunLemmas
 mod NeedLemmas
 mod StopLemmas
 mod DueLemmas
+mod ScriptDueLemmas
+mod AccountLemmas
 mod PartLemmas
+mod TellableLemmas
+mod DueStopLemmas

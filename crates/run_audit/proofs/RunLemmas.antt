@@ -3,6 +3,7 @@ use Rattle.std.proofs.Common.{◌≡◌, ◌∙◌, ℕ, ◌≤◌, ◌⊎◌, i
 use Rattle.std.proofs.Common.{false, if◌then◌else◌, Option, Some, None, is_none, Result, Ok, Err, refl, sym, ap, subst}
 use Rattle.std.proofs.Common.{arith}
 use Rattle.std.specs.declared.convert.Infallible.{Infallible}
+use Rattle.std.specs.List.{All}
 use Rattle.std.proofs.lemmas.List.{map-append}
 use Rattle.std.proofs.lemmas.Slice.Zip.{firsts-zip}
 use Rattle.run_capture.specs.Faults.{Rose}
@@ -14,6 +15,7 @@ use Rattle.run_events.specs.declared.events.ReporterEvent.{ReporterEvent}
 use Rattle.run_model.specs.declared.entry.Entry.{Entry}
 use Rattle.run_model.specs.declared.happening.Happening.{Happening}
 use Rattle.run_model.specs.Journal.{history, past_of, IsLegalBackward, outcome}
+use Rattle.run_model.specs.Once.{HasEachIdOnce}
 use Rattle.run_model.specs.SubRuns.{outcome_in}
 use Rattle.run_model.specs.Turns.{happening}
 use Rattle.run_model.specs.Words.{answers, ended_runs, events_in, is_over, told}
@@ -24,11 +26,16 @@ use Rattle.run_engine.specs.Execution.{AnswersCourse, Carries, Executes, UnlessM
 use Rattle.run_engine.specs.declared.errors.TestRunnerExecuteErrors.{TestRunnerExecuteErrors}
 use Rattle.run_engine.specs.declared.errors.TestRunnerExecuteErrors.TheVariants.{NotEnabled, OutOfMemory, Report}
 use Rattle.run_engine.specs.declared.errors.TestRunnerExecuteErrors.TheVariants.{ThirdSignal, Unfinished}
+use Rattle.run_audit_model.specs.Kept.{IsRightVerdict, KeepsLaw}
+use Rattle.run_audit_model.specs.Seen.{as_audited}
 use Rattle.run_audit_model.specs.declared.audit_event.AuditEvent.{AuditEvent}
 use Rattle.run_audit_model.specs.declared.audit_event.Verdict.{Verdict}
+use Rattle.run_audit_model.specs.declared.audit_event.Verdict.TheVariants.{No, Yes}
+use Rattle.run_laws_audit.specs.Plain.{HasPlainStatus}
+use Rattle.run_laws_audit.proofs.AllKept.{told_is_kept}
 use Rattle.run_audit.specs.Audit.{AnswersAudit, Audited, SaysAudit}
 use Rattle.run_audit.specs.Needs.{AreNeedsOf, HasToldAll}
-use Rattle.run_audit.specs.Stops.{IsRightBy}
+use Rattle.run_audit.specs.Stops.{IsLimitStop, IsRightBy}
 use Rattle.run_audit.specs.declared.needs.Needs.{Needs}
 
 -- the answers of a legal journal are to the events that it told
@@ -98,19 +105,31 @@ told_all asks before log a b p turns u x fresh =
           ∙ answered_told p (reverse x.journal) x.takes.runnable.legal;
     }
 
+-- what a run itself told, with plain statuses, keeps it, so no other verdict is right
+own_kept : (p : Settings) (journal : List Entry) (log : List ReporterEvent) (events : List AuditEvent)
+    (verdict : Verdict) → HasEachIdOnce p → HasToldAll p journal log → All HasPlainStatus log
+    → IsRightVerdict p (past_of p journal) events verdict → events ≡ map as_audited (told (past_of p journal))
+    → verdict ≡ Yes
+own_kept p journal log events Yes once has plain right is = refl
+own_kept p journal log events (No law place) once has plain right is =
+    absurd (right.2.missing (subst (KeepsLaw p (past_of p journal) law) (sym is)
+    (told_is_kept p (reverse journal) once has.legal has.over (subst (All HasPlainStatus) has.is plain) law)))
+
 -- a verdict by what was told says so of the turns
 pub says_verdict : {C : Type 0} (asks : C → List (ℕ × Ask) → Type 0) (before log : List ReporterEvent) (a b : C)
-    (p : Settings) (turns : List Turn) (events : List AuditEvent) (needs : Needs) (verdict : Verdict) (u : RunOutcome)
-    → Executes {E = Infallible} logs asks (logged before log a b) p turns (Ok u) → before ≡ [] → AreNeedsOf p needs
-    → (told : List ReporterEvent) → told ≡ log → IsRightBy needs told events verdict
-    → SaysAudit p turns events (Ok verdict)
-says_verdict asks before log a b p turns events needs verdict u x fresh of told is right =
-    let has = told_all asks before log a b p turns u x.call fresh in
+    (p : Settings) (turns : List Turn) (events : List AuditEvent) (needs : Needs) (limit : Option ℕ) (verdict : Verdict)
+    (u : RunOutcome) → Executes {E = Infallible} logs asks (logged before log a b) p turns (Ok u) → before ≡ []
+    → AreNeedsOf p needs → IsLimitStop p events limit → (told : List ReporterEvent) → told ≡ log
+    → All HasPlainStatus told → IsRightBy needs limit told events verdict → SaysAudit p turns events (Ok verdict)
+says_verdict asks before log a b p turns events needs limit verdict u x fresh of stops told is plain right =
+    let has = subst (HasToldAll p x.call.journal) (sym is) (told_all asks before log a b p turns u x.call fresh) in
+    let verdict_right = right p x.call.journal of stops has in
     record {
       journal = x.call.journal;
       is = journal_of asks before log a b p turns (Ok u) x.call turns x.call.says.0;
       over = has.over;
-      right = right p x.call.journal of (subst (HasToldAll p x.call.journal) (sym is) has);
+      right = verdict_right;
+      own = own_kept p x.call.journal told events verdict of.once has plain verdict_right;
     }
 
 -- any other answer
@@ -143,7 +162,8 @@ says_error asks before log a b p turns events OutOfMemory x = tt
 -- what the course of turns is answered: by a verdict, by the error of the turns, and where memory was wanting
 pub gets_verdict : {C : Type 0} (before log : List ReporterEvent) (a b : C) (p : Settings)
     (turns : List Turn)
-    (verdict : Verdict) (u : RunOutcome) → AnswersCourse {E = Infallible} (logged before log a b) p turns refuses_none (Ok u)
+    (verdict : Verdict) (u : RunOutcome) → AnswersCourse {E = Infallible} (logged before log a b) p turns
+    refuses_none (Ok u)
     → AnswersAudit p turns (Ok verdict)
 gets_verdict before log a b p turns verdict u course = record {
   stops = λ place third stops. other (Ok verdict) (stop_at place third) (course.stops place third stops);

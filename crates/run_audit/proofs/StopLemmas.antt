@@ -31,7 +31,7 @@ use Rattle.run_laws_audit.proofs.EndedLemmas.{all-reverse}
 use Rattle.run_laws_audit.proofs.SplitLemmas.{IsOfNoEdge, split_told}
 use Rattle.run_audit.specs.Needs.{AreNeedsOf, HasToldAll}
 use Rattle.run_audit.specs.Stops.{StopsByLaw}
-use Rattle.run_audit.specs.Told.{no_news, unheard}
+use Rattle.run_audit.specs.Told.{no_news, before_cancels}
 use Rattle.run_audit.specs.declared.needs.Needs.{Needs}
 
 -- news of no edge are split as the run's sub-runs told them
@@ -83,29 +83,30 @@ same_each f g (x ∷ xs) all =
 
 -- what is due of cancels was told
 cancels_told : (needs : Needs) (events : List ReporterEvent) (p : Settings) (journal : List Entry) → AreNeedsOf p needs
-    → HasToldAll p journal events → map unheard (news_by_part needs.stress cancel_news [] events)
+    → HasToldAll p journal events → map before_cancels (news_by_part needs.stress cancel_news [] events)
     ≡ cancel_parts (past_of p journal)
 cancels_told needs events p journal of has =
-    ap (map unheard) (split_so cancel_news cancel_none needs events p journal of has)
+    ap (map before_cancels) (split_so cancel_news cancel_none needs events p journal of has)
     ∙ map_twice (reverse (ended_runs (past_of p journal)))
-    ∙ same_each (λ run. unheard (filter_map cancel_news (told run))) (λ run. unheard (due_cancels run))
+    ∙ same_each (λ run. before_cancels (filter_map cancel_news (told run))) (λ run. before_cancels (due_cancels run))
     (reverse (ended_runs (past_of p journal)))
-    (all-reverse (λ run. unheard (filter_map cancel_news (told run)) ≡ unheard
+    (all-reverse (λ run. before_cancels (filter_map cancel_news (told run)) ≡ before_cancels
     (due_cancels run))
-    (ended_runs (past_of p journal)) (paired (ended_runs (past_of p journal)) (cancels_due p (reverse journal) has.legal)))
+    (ended_runs (past_of p journal)) (paired (ended_runs (past_of p journal)) (cancels_due p (reverse journal)
+    has.legal)))
   where
     map_twice : (runs : List (List Happening))
-        → map unheard (map (λ run. filter_map cancel_news (told run)) runs)
-        ≡ map (λ run. unheard (filter_map cancel_news (told run))) runs
+        → map before_cancels (map (λ run. filter_map cancel_news (told run)) runs)
+        ≡ map (λ run. before_cancels (filter_map cancel_news (told run))) runs
     map_twice [] = refl
-    map_twice (run ∷ runs) = ap (λ ps. unheard (filter_map cancel_news (told run)) ∷ ps) (map_twice runs)
+    map_twice (run ∷ runs) = ap (λ ps. before_cancels (filter_map cancel_news (told run)) ∷ ps) (map_twice runs)
 
     paired : (runs : List (List Happening)) → All (λ run. filter_map cancel_news (told run) ≡ due_cancels run) runs
-        → All (λ run. unheard (filter_map cancel_news (told run)) ≡ unheard (due_cancels run)) runs
-    paired runs all i d low = ap unheard (all i d low)
+        → All (λ run. before_cancels (filter_map cancel_news (told run)) ≡ before_cancels (due_cancels run)) runs
+    paired runs all i d low = ap before_cancels (all i d low)
 
 -- a run that is over has a first state
-one_told : {S : Type 0} (stress : Bool) (coming : List S) → (stress ≡ false → coming ≡ [] → ⊥)
+pub one_told : {S : Type 0} (stress : Bool) (coming : List S) → (stress ≡ false → coming ≡ [] → ⊥)
     → first_state one_each stress coming ≡ None → ⊥
 one_told true coming some is = true≢false (ap is_some is)
 one_told false [] some is = some refl refl
@@ -113,7 +114,7 @@ one_told false (s ∷ coming) some is = true≢false (ap is_some is)
 
 pub cancel_stops : (needs : Needs) (events : List ReporterEvent) (audited : List AuditEvent) (coming : List CancelPart)
     (law : InParts CancelPart (List CancelPart)) (stop : Option ℕ)
-    → coming ≡ map unheard (news_by_part needs.stress cancel_news [] events)
+    → coming ≡ map before_cancels (news_by_part needs.stress cancel_news [] events)
     → first_state one_each needs.stress coming ≡ Some law
     → ((p : Settings) (past : List Happening) → first_state one_each (is_stress p) (cancel_parts past) ≡ Some law
     → IsPlaceOf (KeepsLaw p past 4) audited stop) → StopsByLaw 4 needs events audited stop
@@ -124,7 +125,7 @@ cancel_stops needs events audited coming law stop is first places p journal of h
 
 -- some part was told of a run that is over
 pub cancel_some : (needs : Needs) (events : List ReporterEvent) (audited : List AuditEvent) (coming : List CancelPart)
-    → coming ≡ map unheard (news_by_part needs.stress cancel_news [] events)
+    → coming ≡ map before_cancels (news_by_part needs.stress cancel_news [] events)
     → first_state one_each needs.stress coming ≡ None → StopsByLaw 4 needs events audited None
 cancel_some needs events audited coming is none p journal of has =
     absurd (one_told needs.stress coming (λ single empty. by_length (ap length (sym empty ∙ whole))) none)

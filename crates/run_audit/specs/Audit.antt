@@ -1,31 +1,35 @@
 -- What `audit` answers, and where each answer comes.
-use Rattle.std.specs.Prelude.{ℕ, ◌≡◌, ◌⊎◌, List, Bool, true, false, Result, Ok, Err, ⊤}
+use Rattle.std.specs.Prelude.{ℕ, ◌≡◌, ◌⊎◌, List, map, Bool, true, false, Result, Ok, Err, ⊤}
 use Rattle.std.specs.declared.convert.Infallible.{Infallible}
 use Rattle.run_events.specs.declared.settings.Settings.{Settings}
 use Rattle.run_events.specs.declared.turn.Turn.{Turn}
 use Rattle.run_events.specs.declared.outcome.RunOutcome.{RunOutcome}
 use Rattle.run_model.specs.declared.entry.Entry.{Entry}
 use Rattle.run_model.specs.Journal.{past_of}
-use Rattle.run_model.specs.Words.{is_over}
+use Rattle.run_model.specs.Words.{is_over, told}
 use Rattle.run_laws.specs.Course.{Ends, GoesOn, IsJournalOf, Stops, refuses_none}
 use Rattle.run_engine.specs.Execution.{stop_at}
 use Rattle.run_engine.specs.declared.errors.TestRunnerExecuteErrors.{TestRunnerExecuteErrors}
 use Rattle.run_engine.specs.declared.errors.TestRunnerExecuteErrors.TheVariants.{NotEnabled, OutOfMemory, Report}
 use Rattle.run_engine.specs.declared.errors.TestRunnerExecuteErrors.TheVariants.{ThirdSignal, Unfinished}
 use Rattle.run_audit_model.specs.Kept.{IsRightVerdict}
+use Rattle.run_audit_model.specs.Seen.{as_audited}
 use Rattle.run_audit_model.specs.declared.audit_event.AuditEvent.{AuditEvent}
 use Rattle.run_audit_model.specs.declared.audit_event.Verdict.{Verdict}
+use Rattle.run_audit_model.specs.declared.audit_event.Verdict.TheVariants.{Yes}
 
 -- what `audit` answers
 abbrev pub Audited : Type 0
 Audited = Result Verdict (TestRunnerExecuteErrors Infallible)
 
--- the turns have a journal in which no event is refused, whose run is over, and the verdict on the events is right
+-- the turns have a journal in which no event is refused, whose run is over, and the verdict on the events is right; so
+-- the events that this run itself told keep it
 pub record IsVerdictOn (p : Settings) (turns : List Turn) (events : List AuditEvent) (verdict : Verdict) : Type 0 where
   pub journal : List Entry
   pub is : IsJournalOf p turns refuses_none journal
   pub over : is_over (past_of p journal) ≡ true
   pub right : IsRightVerdict p (past_of p journal) events verdict
+  pub own : events ≡ map as_audited (told (past_of p journal)) → verdict ≡ Yes
 
 -- what each answer says of the turns and the events
 abbrev pub SaysAudit : Settings → List Turn → List AuditEvent → Audited → Type 0

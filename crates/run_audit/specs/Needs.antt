@@ -12,7 +12,7 @@ use Rattle.run_audit_machines.specs.Accounts.{AreApart}
 use Rattle.run_audit.specs.declared.needs.Needs.{Needs}
 
 -- no two tests have one id, and there are so many
-pub record HasPlaces (needs : Needs) : Type 0 where
+pub record HasTestPlaces (needs : Needs) : Type 0 where
   pub apart : AreApart is_one_test needs.places
   pub many : length needs.places ≡ needs.tests
 
@@ -21,7 +21,7 @@ pub record AreNeedsOf (p : Settings) (needs : Needs) : Type 0 where
   pub stress : needs.stress ≡ is_stress p
   pub places : needs.places ≡ map (λ test. test.id) p.plan.tests
   pub once : HasEachIdOnce p
-  pub has : HasPlaces needs
+  pub has : HasTestPlaces needs
 
 -- a legal journal's run is over, and has told these events
 pub record HasToldAll (p : Settings) (journal : List Entry) (events : List ReporterEvent) : Type 0 where

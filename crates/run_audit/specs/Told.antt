@@ -25,12 +25,12 @@ no_news e = None
 -- ---- cancels
 
 -- a part of which these cancels are due
-abbrev pub unheard : List Cancelled → CancelPart
-unheard due = (due, false)
+abbrev pub before_cancels : List Cancelled → CancelPart
+before_cancels due = (due, false)
 
 -- these parts, the open one with so much due of it, and those of the events that come
 abbrev pub cancels_all : Bool → List CancelPart → List Cancelled → List ReporterEvent → List CancelPart
-cancels_all stress parts due events = parts ++ map unheard (news_by_part stress cancel_news due events)
+cancels_all stress parts due events = parts ++ map before_cancels (news_by_part stress cancel_news due events)
 
 -- ---- setup scripts, by what is known of statuses
 

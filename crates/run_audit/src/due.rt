@@ -5,7 +5,7 @@ ghost use Rattle.run_audit_model.specs.Parts.{closes_part};
 ghost use Rattle.run_audit_model.specs.Seen.{as_audited};
 ghost use Rattle.run_laws_audit.specs.Due.{cancel_news};
 ghost use Rattle.run_laws_audit.specs.Split.{news_by_part};
-ghost use Rattle.run_audit.specs.Told.{cancels_all, no_news, unheard};
+ghost use Rattle.run_audit.specs.Told.{cancels_all, no_news, before_cancels};
 
 use run_audit_passes::CancelPart;
 use run_capture::Mem;
@@ -88,7 +88,7 @@ fn after_event(
 
 /// What is due of the cancels of each part.
 pub fn cancels_due(alloc: Global, stress: bool, told: &[ReporterEvent]) -> Mem<VecDeque<CancelPart>>
-    ensures { IfOk result (λ parts. parts.items ≡ map unheard (news_by_part stress cancel_news [] told.now)) }
+    ensures { IfOk result (λ parts. parts.items ≡ map before_cancels (news_by_part stress cancel_news [] told.now)) }
 {
     let mut parts = VecDeque::new(alloc);
     let mut due = VecDeque::new(alloc);

@@ -6,8 +6,11 @@
 mod absent;
 mod auditing;
 mod due;
+mod limits;
 mod needs;
+mod scripts;
 mod stops;
+mod tests;
 mod verdict;
 
 pub use auditing::audit;

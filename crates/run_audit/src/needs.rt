@@ -8,10 +8,11 @@ use run_capture::Mem;
 use run_events::Settings;
 use std::alloc::Global;
 
-/// Whether the run is a stress run, and where the tests stand by their ids.
+/// Whether the run is a stress run, how many tests the plan has, and where they stand by their ids.
 #[derive(Drop)]
 pub struct Needs {
     pub stress: bool,
+    pub tests: usize,
     pub places: PlanPlaces,
 }
 
@@ -20,9 +21,11 @@ pub fn needs_of(alloc: Global, settings: &Settings) -> Mem<Needs>
     requires { HasEachIdOnce settings.now }
     ensures { IfOk result (AreNeedsOf settings.now) }
 {
-    match places_of(alloc, settings.plan.tests.as_slice())? {
+    let tests = settings.plan.tests.as_slice();
+    match places_of(alloc, tests)? {
         Some(places) => Ok(Needs {
             stress: settings.stress.is_some(),
+            tests: tests.len(),
             places,
         }),
         None => unreachable!(),

@@ -52,6 +52,7 @@ fn script_in(alloc: Global, event: &ReporterEvent) -> Mem<Option<DueScript<Known
 }
 
 // What an event makes of the parts before it, and of what is due of the open one.
+#[tactic(auto, using(crate::proofs::ScriptDueLemmas::script_closed, crate::proofs::ScriptDueLemmas::script_told, crate::proofs::ScriptDueLemmas::script_silent))]
 fn after_event(
     alloc: Global,
     stress: bool,

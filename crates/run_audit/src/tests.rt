@@ -6,7 +6,7 @@ ghost use Rattle.run_audit_model.specs.Statuses.{due_status};
 ghost use Rattle.run_audit_machines.specs.Accounts.{accounts_seen};
 ghost use Rattle.run_audit_passes.specs.Texts.{known_compared};
 ghost use Rattle.run_laws_audit.specs.Due.{test_news};
-ghost use Rattle.run_audit.specs.Needs.{HasPlaces};
+ghost use Rattle.run_audit.specs.Needs.{HasTestPlaces};
 ghost use Rattle.run_audit.specs.Told.{AddsAt, accounts_all, accounts_by_part, accounts_known, accounts_with};
 ghost use Rattle.run_audit.specs.Told.{no_accounts, test_known};
 
@@ -101,7 +101,7 @@ fn none_due(alloc: Global, tests: usize) -> Mem<Vec<VecDeque<DueTest<KnownStatus
     ensures none { IfOk result (λ due. All (λ queue. queue.items ≡ []) due.items) }
 {
     let mut due = Vec::with_capacity(alloc, tests)?;
-    for _test in 0..tests {
+    for _ in 0..tests {
         due.push(VecDeque::new(alloc))?;
     }
     Ok(due)
@@ -152,7 +152,7 @@ fn after_event<'a>(
     due: Vec<VecDeque<DueTest<KnownStatus>>>,
     event: &ReporterEvent,
 ) -> Mem<Vec<VecDeque<DueTest<KnownStatus>>>>
-    requires places { HasPlaces needs.now }
+    requires places { HasTestPlaces needs.now }
     requires many { length needs.now.places ≡ length due.items }
     ensures told { IfOk result (λ next. (rest : List Told)
         → accounts_all (λ queue. queue.items) needs.now.stress needs.now.places parts.new.items next.items rest
@@ -178,7 +178,7 @@ pub fn tests_due<'a>(
     needs: &'a Needs,
     told: &[ReporterEvent],
 ) -> Mem<VecDeque<TestPart<SharedPlaces<'a>, KnownStatus>>>
-    requires { HasPlaces needs.now }
+    requires { HasTestPlaces needs.now }
     ensures { IfOk result (λ parts. map (accounts_seen test_known) parts.items
         ≡ accounts_by_part needs.now.stress needs.now.places (no_accounts needs.now.places) told.now) }
 {

@@ -1,8 +1,8 @@
 pub mod EndedLemmas
-mod ShapeLemmas
+pub mod ShapeLemmas
 pub mod EdgeLemmas
 mod ListLemmas
-mod KeptLemmas
+pub mod KeptLemmas
 mod SumLemmas
 mod BoundEvents
 mod JoinedLemmas

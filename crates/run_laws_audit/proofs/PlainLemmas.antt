@@ -1,6 +1,8 @@
 -- Statuses whose numbers have 64 bits and whose texts are UTF-8 are plain.
-use Rattle.std.proofs.Common.{ℕ, ◌<◌, ◌^◌, ℤ, pos, negsuc, List, [], ◌∷◌, ◌++◌, map, Bool, true, false, Option, Some, None}
-use Rattle.std.proofs.Common.{◌≡◌, ◌≤◌, ◌+◌, length, take, get_or, subst, codes, option_map, ltb-true, refl, arith, IsUtf8, IfSome, FitsSigned, w32}
+use Rattle.std.proofs.Common.{ℕ, ◌<◌, ◌^◌, ℤ, pos, negsuc, List, [], ◌∷◌, ◌++◌, map, Bool, true, false, Option, Some}
+use Rattle.std.proofs.Common.{None}
+use Rattle.std.proofs.Common.{◌≡◌, ◌≤◌, ◌+◌, length, take, get_or, subst, codes, option_map, ltb-true, refl, arith}
+use Rattle.std.proofs.Common.{IsUtf8, IfSome, FitsSigned, w32}
 use Rattle.std.specs.List.{All}
 use Rattle.std.specs.Fmt.{signed_decimal}
 use Rattle.std.specs.Str.{IsAscii}
@@ -36,7 +38,8 @@ use Rattle.serde_json.specs.Data.{Data, boolean, string}
 use Rattle.serde_json.specs.View.{items_of}
 use Rattle.run_output.specs.Errors.{child_errors, env_fault_text, error_text, errors_data, fault_errors}
 use Rattle.run_output.specs.Fields.{count, pair}
-use Rattle.run_output.specs.Statuses.{attempt_fields, env_data, fault_of, script_fields, script_status_data, status_data}
+use Rattle.run_output.specs.Statuses.{attempt_fields, env_data, fault_of, script_fields, script_status_data}
+use Rattle.run_output.specs.Statuses.{status_data}
 use Rattle.run_output.specs.Statuses.{stream_fields}
 use Rattle.run_output.specs.Texts.{bytes_data, leaked_text, result_text}
 use Rattle.run_text_laws.specs.Objects.{ArePlainFields}
@@ -188,7 +191,11 @@ status_plain status attempt attempts delay start time outcome streams errors =
   where
     own : ArePlainFields (attempt_fields status)
     own =
-        let times : ArePlainFields ((codes "slow", Some (boolean status.slow)) ∷ (codes "start", Some (count status.start))
+        let times : ArePlainFields ((codes "slow", Some (boolean status.slow)) ∷ (
+          codes "start",
+          Some (count
+              status.start),
+        )
         ∷ (codes "time", Some (count status.time)) ∷ []) =
         (said (codes "slow") refl, tt, (said (codes "start") refl, start, (said (codes "time") refl, time, tt))) in
         let ends : ArePlainFields ((codes "errors", errors_data (child_errors status.output))
@@ -213,7 +220,11 @@ script_status_plain status start time outcome streams errors env =
   where
     own : ArePlainFields (script_fields status)
     own =
-        let times : ArePlainFields ((codes "slow", Some (boolean status.slow)) ∷ (codes "start", Some (count status.start))
+        let times : ArePlainFields ((codes "slow", Some (boolean status.slow)) ∷ (
+          codes "start",
+          Some (count
+              status.start),
+        )
         ∷ (codes "time", Some (count status.time)) ∷ []) =
         (said (codes "slow") refl, tt, (said (codes "start") refl, start, (said (codes "time") refl, time, tt))) in (
           said (codes "env") refl,

@@ -32,14 +32,14 @@ use Rattle.run_laws_audit.proofs.EndedLemmas.{all-reverse, each_end}
 use Rattle.run_laws_audit.proofs.JoinedTold.{told_joined}
 use Rattle.run_laws_audit.proofs.ShapeLemmas.{back, front, inner_open}
 
--- an event closes_part no part, and an edge that closes_part none
+-- an event closes no part, and an edge that closes none
 abbrev StaysOpen : Bool → AuditEvent → Type 0
 StaysOpen stress e = closes_part stress e ≡ false
 
 abbrev IsOpenEdge : Bool → AuditEvent → Type 0
 IsOpenEdge stress e = IsEdge e × (closes_part stress e ≡ false)
 
--- what closes_part a part
+-- what closes a part
 abbrev closing : Bool → AuditEvent
 closing true = seen.SubRunFinished
 closing false = seen.RunFinished
@@ -97,7 +97,8 @@ with_option before (Some y) ys = append_assoc before (y ∷ []) ys
 -- the news of events that close one part, and what comes after them
 closed_once : {Y : Type 0} (stress : Bool) (news : ReporterEvent → Option Y) → IsOfNoEdge news
     → (so_far : List Y)
-    (events : List ReporterEvent) (before rest : List AuditEvent) → map as_audited events ≡ before ++ closing stress ∷ rest
+    (events : List ReporterEvent) (before rest : List AuditEvent) → map as_audited events ≡ before ++ closing stress
+    ∷ rest
     → All (StaysOpen stress) before → All (IsOpenEdge stress) rest → (later : List ReporterEvent)
     → news_by_part stress news so_far (events ++ later)
     ≡ (so_far ++ filter_map news events) ∷ news_by_part stress news [] later
@@ -150,7 +151,7 @@ closed_each stress news none (run ∷ runs) all =
     own : IsClosed stress (told run)
     own = All-head (λ run. IsClosed stress (told run)) run runs all
 
--- what a sub-run has told that is on closes_part no part
+-- what a sub-run has told that is on closes no part
 stays_one : (stress : Bool) (e : AuditEvent) → StaysOpen stress e → All (StaysOpen stress) (e ∷ [])
 stays_one stress e stays = All-cons (StaysOpen stress) e [] stays (All-nil (StaysOpen stress))
 
@@ -224,7 +225,8 @@ on_stays p (e ∷ before) legal = by_run (on_stays p before legal.2) (where_join
             (subst (λ run. All (StaysOpen (is_stress p)) (map as_audited (told run))) (sym (base false begins))
             (was base_on))
             (within_stays (is_stress p) (deed_events (deed_on p (board p past) e.turn))
-            (tells_within p past e h legal.0 begins (not_so x.ends (first_so (not x.ends) (x.begins || is_on of.base) on)))))
+            (tells_within p past e h legal.0 begins (not_so x.ends (first_so (not x.ends) (x.begins || is_on of.base)
+            on)))))
           where
             base_on : is_on (sub_run past) ≡ true
             base_on = sym (ap is_on (base false begins)) ∙ sym (ap (λ b. b || is_on of.base) begins)

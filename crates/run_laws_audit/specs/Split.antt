@@ -4,7 +4,7 @@ use Rattle.run_events.specs.declared.events.ReporterEvent.{ReporterEvent}
 use Rattle.run_audit_model.specs.Parts.{closes_part}
 use Rattle.run_audit_model.specs.Seen.{as_audited}
 
--- what events say up to each that closes_part a part, after what those before them say of the open part; a part that isn't
+-- what events say up to each that closes a part, after what those before them say of the open part; a part that isn't
 -- closed doesn't count
 abbrev pub news_by_part : {Y : Type 0} → Bool → (ReporterEvent → Option Y) → List Y → List ReporterEvent
     → List (List Y)

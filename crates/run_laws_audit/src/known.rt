@@ -5,7 +5,8 @@ ghost use Rattle.run_output.specs.Errors.{child_errors, error_text};
 ghost use Rattle.run_output.specs.Statuses.{script_status_data, status_data, stream_fields};
 ghost use Rattle.run_text_laws.specs.Objects.{ArePlainFields};
 ghost use Rattle.run_text_laws.specs.Plain.{IsPlain};
-ghost use Rattle.run_laws_audit.specs.Plain.{HasPlainStatus, HasPlainStatusIn, IsPlainEnv, IsPlainFailure, IsPlainResult};
+ghost use Rattle.run_laws_audit.specs.Plain.{HasPlainStatus, HasPlainStatusIn, IsPlainEnv, IsPlainFailure};
+ghost use Rattle.run_laws_audit.specs.Plain.{IsPlainResult};
 
 use run_capture::{ChildFdError, Text};
 use run_events::{

@@ -5,9 +5,8 @@ pub returns-in-Ok-judge-clause-says : goal.returns-in-Ok-judge-clause-says
 returns-in-Ok-judge-clause-says c =
     let a = c.args in
     says_verdict _ c.new-log.result c.execute.new.log _ _ a.runner a.turns.now a.events.now a.needs.now
-    c.in-Ok-judge.verdict c.in-Ok.field-0 c.in-Ok.ensures.executes c.new-log.ensures c.requires.needs
-    c.events.result.now
-    c.events.ensures c.in-Ok-judge.ensures
+    a.limit c.in-Ok-judge.verdict c.in-Ok.field-0 c.in-Ok.ensures.executes c.new-log.ensures c.requires.needs
+    c.requires.limit c.events-told.result.now c.events-told.ensures c.known_told.ensures c.in-Ok-judge.ensures
 
 pub returns-clause-says : goal.returns-clause-says
 returns-clause-says c =
