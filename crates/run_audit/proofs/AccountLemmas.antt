@@ -160,29 +160,33 @@ pub split_accounts : (stress : Bool) (ids : List TestInstanceId) (so_far : List 
     (events : List ReporterEvent) → accounts_by_part stress ids (accounts_told ids so_far) events
     ≡ map (accounts_told ids) (news_by_part stress test_news so_far events)
 split_accounts stress ids so_far [] = refl
-split_accounts stress ids so_far (e ∷ events) = by_end (closes_part stress (as_audited e))
+split_accounts stress ids so_far (e ∷ events) =
+    by_end (closes_part stress (as_audited e)) (λ news. split_accounts stress ids news events)
   where
-    by_end : (b : Bool) → (if b then accounts_told ids so_far ∷ accounts_by_part stress ids (no_accounts ids) events
+    by_end : (b : Bool) → ((news : List (TestInstanceId × TestNews))
+        → accounts_by_part stress ids (accounts_told ids news) events
+        ≡ map (accounts_told ids) (news_by_part stress test_news news events)) → (if b then accounts_told ids so_far ∷ accounts_by_part stress ids (no_accounts ids) events
         else accounts_by_part stress ids (accounts_with e (accounts_told ids so_far)) events)
         ≡ map (accounts_told ids) (if b then so_far ∷ news_by_part stress test_news [] events
         else news_by_part stress test_news (so_far ++ option_to_list (test_news e)) events)
-    by_end true = ap (λ l. accounts_told ids so_far ∷ l) (split_accounts stress ids [] events)
-    by_end false =
+    by_end true rest = ap (λ l. accounts_told ids so_far ∷ l) (rest [])
+    by_end false rest =
         ap (λ a. accounts_by_part stress ids a events) (told_with e ids so_far)
-        ∙ split_accounts stress ids (so_far ++ option_to_list (test_news e)) events
+        ∙ rest (so_far ++ option_to_list (test_news e))
 
 -- ---- and by the run
 
 of_one : (id : TestInstanceId) (events : List ReporterEvent)
     → filter_map (λ told. news_if id (Some told)) (filter_map test_news events) ≡ account_told id events
 of_one id [] = refl
-of_one id (e ∷ events) = by_news (test_news e)
+of_one id (e ∷ events) = by_news (test_news e) (of_one id events)
   where
     by_news : (o : Option (TestInstanceId × TestNews))
+        → filter_map (λ told. news_if id (Some told)) (filter_map test_news events) ≡ account_told id events
         → filter_map (λ told. news_if id (Some told)) (cons_option o (filter_map test_news events))
         ≡ cons_option (news_if id o) (account_told id events)
-    by_news None = of_one id events
-    by_news (Some t) = ap (cons_option (news_if id (Some t))) (of_one id events)
+    by_news None rest = rest
+    by_news (Some t) rest = ap (cons_option (news_if id (Some t))) rest
 
 pub run_accounts : (p : Settings) (run : List Happening) (j : ℕ) (tests : List PlanTest)
     → ((i : ℕ) (test : PlanTest) → slice_get tests i ≡ Some test

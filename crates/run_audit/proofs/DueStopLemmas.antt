@@ -1,6 +1,6 @@
 -- Where events stop telling what is due of setup scripts and of tests, by what was told of each part.
 use Rattle.std.proofs.Common.{◌≡◌, ◌∙◌, ◌<◌, ℕ, List, [], ◌∷◌, map, length, reverse, Option, Some, None, refl, sym, ap}
-use Rattle.std.proofs.Common.{ap₂, subst, arith, Bool}
+use Rattle.std.proofs.Common.{get_or, ap₂, subst, arith, Bool}
 use Rattle.std.specs.List.{All}
 use Rattle.std.proofs.lemmas.List.{length-map, length-reverse}
 use Rattle.std.proofs.lemmas.List.Elements.{All-nil, All-cons, All-head, All-map, All-tail}
@@ -97,7 +97,7 @@ scripts_hold stress events coming law plain is first =
     first_holds (CanTellScripts script_known) stress coming law
     (scripts_each coming dues (script_parts coming dues is).1
     (all_by_part stress script_news IsScriptTellable [] events (All-nil IsScriptTellable)
-    (λ i d low. script_tellable _ (plain i d low)))) first
+    (λ i d low. script_tellable (get_or events i d) (plain i d low)))) first
   where
     dues : List (List ScriptNews)
     dues = news_by_part stress script_news [] events
@@ -162,14 +162,14 @@ tests_hold needs events coming law has plain is first =
     (tests_each coming (map (accounts_told needs.places) news)
     (is ∙ split_accounts needs.stress needs.places [] events)
     (All-map (CanTellEach is_one_test seen_test) (accounts_told needs.places) news
-    (λ i d low. accounts_tellable needs.places _ has.apart (each i d low)))) first
+    (λ i d low. accounts_tellable needs.places (get_or news i d) has.apart (each i d low)))) first
   where
     news : List (List (TestInstanceId × TestNews))
     news = news_by_part needs.stress test_news [] events
 
     each : All (All IsTestTellable) news
     each = all_by_part needs.stress test_news IsTestTellable [] events (All-nil IsTestTellable)
-        (λ i d low. test_tellable _ (plain i d low))
+        (λ i d low. test_tellable (get_or events i d) (plain i d low))
 
 pub test_stops : (needs : Needs) (events : List ReporterEvent) (audited : List AuditEvent)
     (coming : List (TestPart (DueTest Known)))

@@ -1,5 +1,5 @@
 -- What is due of the setup scripts and of each test in each sub-run was told in its part.
-use Rattle.std.proofs.Common.{◌≡◌, ◌∙◌, ℕ, List, [], ◌∷◌, map, reverse, filter_map, Option, Some, None, slice_get}
+use Rattle.std.proofs.Common.{get_or, ◌≡◌, ◌∙◌, ℕ, List, [], ◌∷◌, map, reverse, filter_map, Option, Some, None, slice_get}
 use Rattle.std.proofs.Common.{arith}
 use Rattle.std.proofs.Common.{refl, ap}
 use Rattle.std.specs.List.{All}
@@ -94,8 +94,8 @@ accounts_so needs events p journal of has =
     ∙ map_twice (accounts_told needs.places) (λ run. filter_map test_news (told run)) (reverse runs)
     ∙ same_each (λ run. accounts_told needs.places (filter_map test_news (told run))) (accounts_of p) (reverse runs)
     (all-reverse (λ run. accounts_told needs.places (filter_map test_news (told run)) ≡ accounts_of p run) runs
-    (λ i d low. account_each p needs.places of.places _ (accounts_were_told p (reverse journal) of.once has.legal i d
-    low)))
+    (λ i d low. account_each p needs.places of.places (get_or runs i d)
+    (λ j test there. accounts_were_told p (reverse journal) of.once has.legal i d low j test there)))
   where
     runs : List (List Happening)
     runs = ended_runs (past_of p journal)

@@ -1,6 +1,6 @@
 -- What was told can be told: events say it that stand within a part.
 use Rattle.std.proofs.Common.{◌≡◌, ◌∙◌, ℕ, List, [], ◌∷◌, ◌++◌, map, filter_map, Bool, true, false, if◌then◌else◌, refl}
-use Rattle.std.proofs.Common.{Option, Some, None, option_to_list, is_some, sym, ap, subst, IfSome, true≢false}
+use Rattle.std.proofs.Common.{get_or, Option, Some, None, option_to_list, is_some, sym, ap, subst, IfSome, true≢false}
 use Rattle.std.specs.List.{All}
 use Rattle.std.proofs.lemmas.List.{append-nil}
 use Rattle.std.proofs.lemmas.List.Elements.{All-nil, All-cons, All-head, All-push, All-tail}
@@ -34,23 +34,23 @@ pub all_by_part : {Y : Type 0} (stress : Bool) (news : ReporterEvent → Option 
     (events : List ReporterEvent) → All Holds so_far → All (λ e. IfSome (news e) Holds) events
     → All (All Holds) (news_by_part stress news so_far events)
 all_by_part stress news Holds so_far [] before all = All-nil (All Holds)
-all_by_part {Y} stress news Holds so_far (e ∷ events) before all = by_end (closes_part stress (as_audited e))
+all_by_part {Y} stress news Holds so_far (e ∷ events) before all =
+    by_end (closes_part stress (as_audited e)) (λ earlier own. all_by_part stress news Holds earlier events own
+    (All-tail (λ e. IfSome (news e) Holds) e events all))
   where
-    rest : All (λ e. IfSome (news e) Holds) events
-    rest = All-tail (λ e. IfSome (news e) Holds) e events all
-
     more : (o : Option Y) → IfSome o Holds → All Holds (so_far ++ option_to_list o)
     more None own = subst (All Holds) (sym (append-nil so_far)) before
     more (Some y) own = All-push Holds so_far y before own
 
-    by_end : (b : Bool) → All (All Holds) (if b then so_far ∷ news_by_part stress news [] events
+    by_end : (b : Bool) → ((earlier : List Y) → All Holds earlier → All (All Holds)
+        (news_by_part stress news earlier events))
+        → All (All Holds) (if b then so_far ∷ news_by_part stress news [] events
         else news_by_part stress news (so_far ++ option_to_list (news e)) events)
-    by_end true =
-        All-cons (All Holds) so_far (news_by_part stress news [] events) before
-        (all_by_part stress news Holds [] events (All-nil Holds) rest)
-    by_end false =
-        all_by_part stress news Holds (so_far ++ option_to_list (news e)) events
-        (more (news e) (All-head (λ e. IfSome (news e) Holds) e events all)) rest
+    by_end true rest =
+        All-cons (All Holds) so_far (news_by_part stress news [] events) before (rest [] (All-nil Holds))
+    by_end false rest =
+        rest (so_far ++ option_to_list (news e))
+        (more (news e) (All-head (λ e. IfSome (news e) Holds) e events all))
 
 -- what holds of each part to come holds of a run at its start
 pub first_holds : {S : Type 0} (Holds : S → Type 0) (stress : Bool) (coming : List S) (law : InParts S (List S))
@@ -139,7 +139,7 @@ each_tellable (id ∷ ids) news all =
     All-cons (λ account. All (IsTellableOf seen_test account.0) account.1)
     (id, filter_map (λ told. news_if id (Some told)) news) (accounts_told ids news)
     (kept_all (λ told. news_if id (Some told)) (IsTellableOf seen_test id) news
-    (λ i d low. one_tellable id _ (all i d low)))
+    (λ i d low. one_tellable id (get_or news i d) (all i d low)))
     (each_tellable ids news all)
 
 pub accounts_tellable : (ids : List TestInstanceId) (news : List (TestInstanceId × TestNews))

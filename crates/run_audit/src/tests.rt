@@ -97,8 +97,7 @@ fn test_in(alloc: Global, event: &ReporterEvent) -> Mem<Option<DueTest<KnownStat
 
 // Nothing due of each of so many tests.
 fn none_due(alloc: Global, tests: usize) -> Mem<Vec<VecDeque<DueTest<KnownStatus>>>>
-    ensures many { IfOk result (λ due. length due.items ≡ tests) }
-    ensures none { IfOk result (λ due. All (λ queue. queue.items ≡ []) due.items) }
+    ensures { IfOk result (λ due. (length due.items ≡ tests) × All (λ queue. queue.items ≡ []) due.items) }
 {
     let mut due = Vec::with_capacity(alloc, tests)?;
     for _ in 0..tests {
