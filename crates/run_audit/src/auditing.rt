@@ -6,10 +6,10 @@ ghost use Rattle.run_audit.specs.Needs.{AreNeedsOf};
 ghost use Rattle.run_audit.specs.Stops.{IsLimitStop};
 
 use crate::absent::Absent;
-use crate::limits::limit_stop;
 use crate::needs::{Needs, needs_of};
 use crate::verdict::judge;
 use run_audit_model::{AuditEvent, Verdict};
+use run_audit_passes::limit_place;
 use run_capture::Mem;
 use run_engine::{TestRunner, TestRunnerExecuteErrors};
 use run_events::{EventLog, Settings, Turn};
@@ -52,7 +52,7 @@ fn judged(alloc: Global, settings: &Settings, events: &[AuditEvent]) -> Mem<(Nee
     requires { HasEachIdOnce settings.now }
     ensures { IfOk result (λ needs. AreNeedsOf settings.now needs.0 × IsLimitStop settings.now events.now needs.1) }
 {
-    let limit = limit_stop(alloc, settings, events)?;
+    let limit = limit_place(alloc, settings, events)?;
     let needs = needs_of(alloc, settings)?;
     Ok((needs, limit))
 }

@@ -6,7 +6,6 @@
 mod absent;
 mod auditing;
 mod due;
-mod limits;
 mod needs;
 mod scripts;
 mod stops;

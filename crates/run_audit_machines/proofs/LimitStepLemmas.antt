@@ -33,7 +33,7 @@ other_weight : (name : List ℕ) (limit : ℕ) (test : PlanTest) (seat : Seat) �
     → seat_group_weight name limit (test, seat) ≡ 0
 other_weight name limit test seat other = ap (λ b. if b then seat_weight limit (test, seat) else 0) other
 
-other_sum : (name : List ℕ) (limit : ℕ) (seats : List Seated) (place : ℕ) (test : PlanTest) (old new : Seat)
+pub other_sum : (name : List ℕ) (limit : ℕ) (seats : List Seated) (place : ℕ) (test : PlanTest) (old new : Seat)
     → slice_get seats place ≡ Some (test, old) → is_of_group name test ≡ false
     → sum_by (seat_group_weight name limit) (set seats place (test, new))
     ≡ sum_by (seat_group_weight name limit) seats

@@ -2,3 +2,8 @@ mod AlwaysLemmas
 mod PlanPlaceLemmas
 mod TestPartLemmas
 mod KnownLemmas
+mod HeldLemmas
+mod TakenLemmas
+mod TableLemmas
+mod LimitPartLemmas
+mod GroupLimitLemmas

@@ -2,9 +2,10 @@
 use Rattle.std.specs.Prelude.{nat_eq}
 use Rattle.std.proofs.Common.{zero, ◌+◌, ◌<◌, arith, get_or, is_some, map, take}
 use Rattle.std.proofs.Common.{drop}
-use Rattle.std.specs.List.{All}
+use Rattle.std.specs.List.{All, IsDistinct}
 use Rattle.std.proofs.lemmas.List.{drop_more, length-map, length-take-le, map-append, map_more, take-append-drop}
-use Rattle.std.proofs.lemmas.List.Elements.{All-head, All-tail}
+use Rattle.std.proofs.lemmas.List.Elements.{All-from_recursion, All-head, All-tail, All-weaker}
+use Rattle.std.proofs.lemmas.Map.Keys.{IsDistinct-head, IsDistinct-tail}
 use Rattle.std.proofs.Common.{◌≡◌, ◌∙◌, ℕ, suc, List, [], ◌∷◌, ◌++◌, length, Option, Some, None, cond, Bool}
 use Rattle.std.proofs.Common.{true, false}
 use Rattle.std.proofs.Common.{refl, sym, ap, ap₂, subst, true≢false}
@@ -125,3 +126,14 @@ not_apart f tests place test ids o within is ids_are there own apart =
     let split = ap (map f) whole ∙ map-append f (take place tests) (test ∷ rest)
     ∙ ap (λ l. l ++ f test ∷ map f rest) (sym ids_are) in
     own_twice ids (map f rest) (f test) o there own (subst (AreApart is_one_test) split apart)
+
+-- ids of which no two are equal are apart
+pub apart_of : (ids : List TestInstanceId) → IsDistinct is_one_test ids → AreApart is_one_test ids
+apart_of [] h = tt
+apart_of (id ∷ ids) h = (
+  All-weaker (λ other. is_one_test id other ≡ false)
+      (λ other. (is_one_test id other ≡ false) × (is_one_test other id ≡ false))
+      (λ other apart. (apart, other_way id other apart)) ids
+      (All-from_recursion (λ other. is_one_test id other ≡ false) ids (IsDistinct-head is_one_test id ids h)),
+  apart_of ids (IsDistinct-tail is_one_test id ids h),
+)

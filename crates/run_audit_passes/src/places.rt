@@ -3,6 +3,7 @@ ghost use Rattle.std.specs.Prelude.{◌≡◌, ℕ, List, Some, IfOk, length, ma
 ghost use Rattle.std.specs.List.{All};
 ghost use Rattle.run_events.specs.declared.settings.Settings.{Settings};
 ghost use Rattle.run_model.specs.declared.happening.Happening.{Happening};
+ghost use Rattle.run_model.specs.Once.{HasEachIdOnce};
 ghost use Rattle.run_model.specs.Words.{ended_runs};
 ghost use Rattle.run_audit_model.specs.Kept.{KeepsLaw};
 ghost use Rattle.run_audit_model.specs.Parts.{is_stress};
@@ -15,9 +16,12 @@ ghost use Rattle.run_audit_passes.specs.Due.{due_news, due_test_news};
 ghost use Rattle.run_audit_passes.specs.declared.due_script.DueScript.{DueScript as Script};
 ghost use Rattle.run_audit_passes.specs.declared.due_test.DueTest.{DueTest as Test};
 
-use crate::{CancelPart, DueStatus, Parts, ScriptPart, ShapeLaw, TestPart, TestPlaces};
+use crate::{CancelPart, DueStatus, EndlessParts, LimitPart, Parts, ScriptPart, ShapeLaw, TestPart};
+use crate::{TestPlaces, places_of};
 use run_audit_model::{AuditEvent, first_stop};
 use run_capture::Mem;
+use run_events::Settings as Plan;
+use std::alloc::Global;
 
 /// The first place at which the events can't be continued to the shape of a run of so many sub-runs.
 pub fn shape_place(stress: bool, runs: u64, events: &[AuditEvent]) -> Mem<Option<u64>>
@@ -68,5 +72,20 @@ pub fn test_place<N: TestPlaces + Drop, S: DueStatus + Drop>(
         → IsPlaceOf (KeepsLaw p past 2) events.now place) }
 {
     let mut law = law;
+    first_stop(&mut law, events)
+}
+
+/// The first place at which they can't be continued to a list in each part of which the tests that run keep the limits
+/// of the plan, and have slots of their own, after each event.
+pub fn limit_place(alloc: Global, settings: &Plan, events: &[AuditEvent]) -> Mem<Option<u64>>
+    requires { HasEachIdOnce settings.now }
+    ensures { IfOk result (λ place. (past : List Happening) → IsPlaceOf (KeepsLaw settings.now past 3) events.now place) }
+{
+    let found = places_of(alloc, settings.plan.tests.as_slice())?;
+    let Some(places) = found else {
+        unreachable!()
+    };
+    let part = LimitPart::new(alloc, settings, places)?;
+    let mut law = EndlessParts::new(settings.stress.is_some(), part);
     first_stop(&mut law, events)
 }
