@@ -6,7 +6,7 @@ use Rattle.std.proofs.Common.{append_assoc}
 use Rattle.std.specs.List.{All, cons_option, list_any}
 use Rattle.std.proofs.lemmas.Bool.{or_parts}
 use Rattle.std.proofs.lemmas.List.{append-nil, length-set, map-append}
-use Rattle.std.proofs.lemmas.List.Elements.{All-head, All-tail, filter_map-append}
+use Rattle.std.proofs.lemmas.List.Elements.{All-head, All-push, All-tail, filter_map-append}
 use Rattle.std.proofs.lemmas.Option.{same_Some}
 use Rattle.run_events.specs.declared.events.ReporterEvent.{ReporterEvent}
 use Rattle.run_events.specs.declared.plan.PlanTest.{PlanTest}
@@ -103,6 +103,10 @@ none_known items (id ∷ ids) (queue ∷ queues) many none =
     ap₂ (λ a b. a ∷ b)
     (ap (λ due. (id, map test_known due)) (All-head (λ queue. items queue ≡ []) queue queues none))
     (none_known items ids queues (omega (arith, many)) (All-tail (λ queue. items queue ≡ []) queue queues none))
+
+pub one_empty : {Q Y : Type 0} (items : Q → List Y) (queues : List Q) (queue : Q)
+    → All (λ queue. items queue ≡ []) queues → items queue ≡ [] → All (λ queue. items queue ≡ []) (queues ++ queue ∷ [])
+one_empty items queues queue all none = All-push (λ queue. items queue ≡ []) queues queue all none
 
 -- ---- all events of a part
 

@@ -1,6 +1,7 @@
 -- What is kept of the tests of a part, to tell by look-ups whether their limits and slots allow an event.
 use Rattle.std.specs.Prelude.{ℕ, suc, ◌+◌, ◌≡◌, List, [], ◌∷◌, map, set, sum_by, slice_get, nat_eq, nat_le}
-use Rattle.std.specs.Prelude.{Bool, true, false, ◌&&◌, not, cond, if◌then◌else◌, nat_lt, Option, Some, None, option_map, unwrap_or}
+use Rattle.std.specs.Prelude.{Bool, true, false, ◌&&◌, not, cond, if◌then◌else◌, nat_lt, Option, Some, None}
+use Rattle.std.specs.Prelude.{option_map, unwrap_or}
 use Rattle.std.specs.List.{list_any}
 use Rattle.std.specs.Option.{option_cmp, option_map_or}
 use Rattle.std.specs.Ordering.{nat_cmp, ordering_then}
@@ -14,7 +15,8 @@ use Rattle.run_events.specs.declared.plan.TestInstanceId.{TestInstanceId}
 use Rattle.run_events.specs.declared.plan.TestSlotAssignment.{TestSlotAssignment}
 use Rattle.run_events.specs.declared.settings.Settings.{Settings}
 use Rattle.run_laws_events.specs.PlanLimits.{group_named}
-use Rattle.run_audit_machines.specs.Holders.{group_slot_told, is_key, is_slot_free, own_group_slot, same_slot, slot_told}
+use Rattle.run_audit_machines.specs.Holders.{group_slot_told, is_key, is_slot_free, own_group_slot, same_slot}
+use Rattle.run_audit_machines.specs.Holders.{slot_told}
 use Rattle.run_audit_machines.specs.Limits.{Seat, Seated, SeatsNow, keeps_seats, no_seat, no_seats}
 use Rattle.run_audit_machines.specs.Limits.{seat_group_weight, seat_weight}
 use Rattle.run_audit_machines.proofs.LimitStepLemmas.{keeps_own}
@@ -135,7 +137,8 @@ pub record TakesSeat (p : Settings) (before after : LimitTable) (place : ℕ) (n
   pub told : after.told ≡ before.told
 
 -- what a seat that changes makes of the table, and whether all limits are kept
-pub record ChangesTable (p : Settings) (before after : LimitTable) (place : ℕ) (new : Seated) (kept : Bool) : Type 0 where
+pub record ChangesTable (p : Settings) (before after : LimitTable) (place : ℕ) (new : Seated) (kept : Bool) : Type 0
+    where
   pub right : kept ≡ keeps_seats (seat_set (seats_now p before.told) place new)
   pub table : kept ≡ true → IsTable p after
   pub seats : seats_now p after.told ≡ seat_set (seats_now p before.told) place new

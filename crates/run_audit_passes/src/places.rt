@@ -79,7 +79,8 @@ pub fn test_place<N: TestPlaces + Drop, S: DueStatus + Drop>(
 /// of the plan, and have slots of their own, after each event.
 pub fn limit_place(alloc: Global, settings: &Plan, events: &[AuditEvent]) -> Mem<Option<u64>>
     requires { HasEachIdOnce settings.now }
-    ensures { IfOk result (λ place. (past : List Happening) → IsPlaceOf (KeepsLaw settings.now past 3) events.now place) }
+    ensures { IfOk result (λ place. (past : List Happening) → IsPlaceOf (KeepsLaw settings.now past 3) events.now
+    place) }
 {
     let found = places_of(alloc, settings.plan.tests.as_slice())?;
     let Some(places) = found else {
