@@ -50,21 +50,27 @@ ids_are told first (t ∷ tests) = ap (λ ids. t.id ∷ ids) (ids_are told (suc 
 pub start_after : (own : TestInstanceId) (slots : TestSlotAssignment) (s : Seated) → is_one_test own s.0.id ≡ true
     → seated_after (seen.TestStarted own slots) s ≡ (s.0, seat_started s.1 slots)
 start_after own slots s is =
-    ap (λ b. (s.0, record {
-      started = s.1.started + cond b 1 0;
-      finished = s.1.finished + 0;
-      slots = if b then Some slots else s.1.slots;
-    })) is
+    ap (λ b. (
+      s.0,
+      record {
+        started = s.1.started + cond b 1 0;
+        finished = s.1.finished + 0;
+        slots = if b then Some slots else s.1.slots;
+      },
+    )) is
     ∙ ap (λ n. (s.0, record { started = s.1.started + 1; finished = n; slots = Some slots })) (add-zero s.1.finished)
 
 pub finish_after : (own : TestInstanceId) (statuses : List (List ℕ)) (s : Seated) → is_one_test own s.0.id ≡ true
     → seated_after (seen.Finished own statuses) s ≡ (s.0, seat_finished s.1)
 finish_after own statuses s is =
-    ap (λ b. (s.0, record {
-      started = s.1.started + 0;
-      finished = s.1.finished + cond b 1 0;
-      slots = s.1.slots;
-    })) is
+    ap (λ b. (
+      s.0,
+      record {
+        started = s.1.started + 0;
+        finished = s.1.finished + cond b 1 0;
+        slots = s.1.slots;
+      },
+    )) is
     ∙ ap (λ n. (s.0, record { started = n; finished = s.1.finished + 1; slots = s.1.slots })) (add-zero s.1.started)
 
 abbrev where_kept : SeatsNow → Option SeatsNow

@@ -1,7 +1,8 @@
 -- What is taken of the limits, as the seat of one test changes.
 use Rattle.std.specs.Prelude.{slice_get}
 use Rattle.std.proofs.Common.{◌≡◌, ◌∙◌, ℕ, ◌+◌, nat_eq, nat_le, nat_lt, List, set, sum_by, Option, Some, None, is_some}
-use Rattle.std.proofs.Common.{Bool, true, false, ◌&&◌, cond, if◌then◌else◌, option_map, unwrap_or, refl, sym, ap, ap₂, subst, true≢false}
+use Rattle.std.proofs.Common.{Bool, true, false, ◌&&◌, cond, if◌then◌else◌, option_map, unwrap_or, refl, sym, ap, ap₂}
+use Rattle.std.proofs.Common.{subst, true≢false}
 use Rattle.std.proofs.Common.{arith}
 use Rattle.std.specs.BTreeMap.{BTreeMap, get, is_at}
 use Rattle.std.specs.BTreeSet.{contains}

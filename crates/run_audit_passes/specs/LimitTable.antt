@@ -138,10 +138,10 @@ pub record TakesSeat (p : Settings) (before after : LimitTable) (place : ℕ) (n
 
 -- what a seat that changes makes of the table, and whether all limits are kept
 pub record ChangesTable (p : Settings) (before after : LimitTable) (place : ℕ) (new : Seated) (kept : Bool) : Type 0
-    where
-  pub right : kept ≡ keeps_seats (seat_set (seats_now p before.told) place new)
-  pub table : kept ≡ true → IsTable p after
-  pub seats : seats_now p after.told ≡ seat_set (seats_now p before.told) place new
+  where
+    pub right : kept ≡ keeps_seats (seat_set (seats_now p before.told) place new)
+    pub table : kept ≡ true → IsTable p after
+    pub seats : seats_now p after.told ≡ seat_set (seats_now p before.told) place new
 
 -- before a part: no test was told
 abbrev pub IsFirstTable : LimitTable → Type 0

@@ -114,7 +114,14 @@ impl<'a> LimitPart<'a> {
             return Err(OutOfMemory);
         }
         self.broken = true;
-        let kept = change(self.alloc, &mut self.table, self.settings, &self.limits, place, new)?;
+        let kept = change(
+            self.alloc,
+            &mut self.table,
+            self.settings,
+            &self.limits,
+            place,
+            new,
+        )?;
         self.broken = !kept;
         Ok(kept)
     }

@@ -16,8 +16,10 @@ ghost use Rattle.run_audit_passes.specs.Due.{due_news, due_test_news};
 ghost use Rattle.run_audit_passes.specs.declared.due_script.DueScript.{DueScript as Script};
 ghost use Rattle.run_audit_passes.specs.declared.due_test.DueTest.{DueTest as Test};
 
-use crate::{CancelPart, DueStatus, EndlessParts, LimitPart, Parts, ScriptPart, ShapeLaw, TestPart};
-use crate::{TestPlaces, places_of};
+use crate::{
+    CancelPart, DueStatus, EndlessParts, LimitPart, Parts, ScriptPart, ShapeLaw, TestPart,
+    TestPlaces, places_of,
+};
 use run_audit_model::{AuditEvent, first_stop};
 use run_capture::Mem;
 use run_events::Settings as Plan;
@@ -79,13 +81,11 @@ pub fn test_place<N: TestPlaces + Drop, S: DueStatus + Drop>(
 /// of the plan, and have slots of their own, after each event.
 pub fn limit_place(alloc: Global, settings: &Plan, events: &[AuditEvent]) -> Mem<Option<u64>>
     requires { HasEachIdOnce settings.now }
-    ensures { IfOk result (λ place. (past : List Happening) → IsPlaceOf (KeepsLaw settings.now past 3) events.now
-    place) }
+    ensures { IfOk result (λ place. (past : List Happening)
+        → IsPlaceOf (KeepsLaw settings.now past 3) events.now place) }
 {
     let found = places_of(alloc, settings.plan.tests.as_slice())?;
-    let Some(places) = found else {
-        unreachable!()
-    };
+    let Some(places) = found else { unreachable!() };
     let part = LimitPart::new(alloc, settings, places)?;
     let mut law = EndlessParts::new(settings.stress.is_some(), part);
     first_stop(&mut law, events)

@@ -105,7 +105,11 @@ fn number_in(slots: &TestSlotAssignment) -> Option<u32>
 }
 
 /// The slot that it has in the group of this name, if it runs.
-pub fn group_slot_of(alloc: Global, name: &Text, seat: &SeatTold) -> Mem<Option<(Text, Option<u32>)>>
+pub fn group_slot_of(
+    alloc: Global,
+    name: &Text,
+    seat: &SeatTold,
+) -> Mem<Option<(Text, Option<u32>)>>
     ensures { IfOk result (λ slot. slot ≡ slot_in_group name.now (seat_of seat.now)) }
 {
     if !runs(seat) {

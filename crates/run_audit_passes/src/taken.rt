@@ -82,7 +82,11 @@ pub fn change_all(
         → IsOwn nat_eq slot_told seats place (test.now, seat_of old.now)
         → ChangesAll threads all.new (test.now, seat_of new.now) kept seats place) }
 {
-    let sum = sum_after(all.sum, weight_of(test, old, threads), weight_of(test, new, threads))?;
+    let sum = sum_after(
+        all.sum,
+        weight_of(test, old, threads),
+        weight_of(test, new, threads),
+    )?;
     all.sum = sum;
     let free = hold(&mut all.slots, slot_of(old), slot_of(new))?;
     Ok(free && sum <= threads as u64)
@@ -99,7 +103,13 @@ fn sum_of(sums: &BTreeMap<Text, u64>, name: &Text) -> u64
 }
 
 /// Replaces one of its parts, and answers what is taken then.
-fn change_sum(alloc: Global, sums: &mut BTreeMap<Text, u64>, name: &Text, old: u64, new: u64) -> Mem<u64>
+fn change_sum(
+    alloc: Global,
+    sums: &mut BTreeMap<Text, u64>,
+    name: &Text,
+    old: u64,
+    new: u64,
+) -> Mem<u64>
     ensures sum { IfOk result (λ sum. sum + old ≡ sum_in sums.old name.now + new) }
     ensures sums { IfOk result (λ sum. (k : List ℕ) → sum_in sums.new k
         ≡ cond (pointwise nat_eq name.now k) sum (sum_in sums.old k)) }
