@@ -169,7 +169,8 @@ split_accounts stress ids so_far (e ∷ events) =
   where
     by_end : (b : Bool) → ((news : List (TestInstanceId × TestNews))
         → accounts_by_part stress ids (accounts_told ids news) events
-        ≡ map (accounts_told ids) (news_by_part stress test_news news events)) → (if b then accounts_told ids so_far ∷ accounts_by_part stress ids (no_accounts ids) events
+        ≡ map (accounts_told ids) (news_by_part stress test_news news events)) → (if b then accounts_told ids so_far
+        ∷ accounts_by_part stress ids (no_accounts ids) events
         else accounts_by_part stress ids (accounts_with e (accounts_told ids so_far)) events)
         ≡ map (accounts_told ids) (if b then so_far ∷ news_by_part stress test_news [] events
         else news_by_part stress test_news (so_far ++ option_to_list (test_news e)) events)

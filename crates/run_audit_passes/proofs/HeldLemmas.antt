@@ -28,7 +28,8 @@ set_same (s ∷ items) (suc place) old is = ap (λ l. s ∷ l) (set_same items p
 
 -- ---- some item has a slot: that at a place, or another
 
-any_all : {S : Type 0} (test : S → Bool) (items : List S) → list_any test items ≡ not (list_all (λ x. not (test x)) items)
+any_all : {S : Type 0} (test : S → Bool) (items : List S) → list_any test items ≡ not (list_all (λ x. not (test x))
+    items)
 any_all test [] = refl
 any_all test (s ∷ items) = by (test s) (any_all test items)
   where

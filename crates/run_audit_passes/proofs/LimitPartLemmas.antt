@@ -198,7 +198,8 @@ abbrev pub Comes : SeatsNow → SeatsNow → AuditEvent → Bool → Type 0
 Comes before after e kept = (kept ≡ true → limit_part.takes before e ≡ Some after)
     × (kept ≡ false → limit_part.takes before e ≡ None)
 
-pub start_comes : (before after : SeatsNow) (own : TestInstanceId) (slots : TestSlotAssignment) (place : ℕ) (kept : Bool)
+pub start_comes : (before after : SeatsNow) (own : TestInstanceId) (slots : TestSlotAssignment) (place : ℕ) (kept :
+    Bool)
     → IsOnlyAt (is_one_test own) (map (λ s. s.0.id) before.seats) place
     → ((s : Seated) → slice_get before.seats place ≡ Some s
     → ChangesSeats before after place (seat_started s.1 slots) kept)

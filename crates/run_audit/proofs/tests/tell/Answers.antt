@@ -36,7 +36,7 @@ returns-in-Some-2-clause-told c =
     let t = something_told c.id_in.result (test_news e) c.in-Some.id c.id_in.ensures c.in-Some.is in
     let only = subst (λ id. IsOnlyAt (is_one_test id) c.args.places.now place) (sym t.2) c.in-Some-place.ensures in
     let known = subst (λ o. option_map test_known o ≡ option_map (λ told. told.1) (test_news e)) c.in-Some-2.is
-    c.in_ok-test_in.ensures in
+    c.in_ok-next.ensures in
     on_ok_weaker c.add_at.result (λ adds. added_with (λ queue. queue.items) e t.0 c.in-Some-2.next c.args.places.now
     c.args.due.now.items c.add_at.new.due.items place t.1 (news_known (test_news e) t.0 c.in-Some-2.next t.1 known)
     only adds) c.add_at.ensures

@@ -8,7 +8,8 @@ returns-in-Some-limit c =
     let a = c.args in
     third_no a.needs.now a.limit a.told.now a.events.now c.in-Some-limit.place
     (subst (StopsByLaw 1 a.needs.now a.told.now a.events.now) c.in_default.is c.in_ok-place.ensures)
-    (subst (StopsByLaw 2 a.needs.now a.told.now a.events.now) c.in_default-2.is c.in_ok-place-2.ensures) c.in-Some-limit.is
+    (subst (StopsByLaw 2 a.needs.now a.told.now a.events.now) c.in_default-2.is c.in_ok-place-2.ensures)
+    c.in-Some-limit.is
 
 pub returns-in-Some-3 : goal.returns-in-Some-3
 returns-in-Some-3 c =
