@@ -1,23 +1,25 @@
-mod EndedLemmas
-mod ShapeLemmas
-mod EdgeLemmas
+pub mod EndedLemmas
+pub mod ShapeLemmas
+pub mod EdgeLemmas
 mod ListLemmas
-mod KeptLemmas
+pub mod KeptLemmas
 mod SumLemmas
 mod BoundEvents
 mod JoinedLemmas
 mod WholeLemmas
 mod JoinedTold
+pub mod SplitLemmas
 mod EachLemmas
 mod AroundLemmas
-mod CancelLemmas
-mod StatusLemmas
-mod ReadLemmas
-mod IdLemmas
+pub mod CancelLemmas
+pub mod StatusLemmas
+pub mod ReadLemmas
+mod PlainLemmas
+pub mod IdLemmas
 mod TestLemmas
 mod ScriptOrder
 mod ScriptNewsTold
 mod ScriptLemmas
 mod RunningSeen
 mod LimitLemmas
-mod AllKept
+pub mod AllKept

@@ -37,7 +37,7 @@ joined-push stress (first ∷ earlier) part =
     last = front stress ++ (part ++ back stress)
 
 -- an inner event closes nothing
-inner_open : (stress : Bool) (e : AuditEvent) → IsInner e → closes_part stress e ≡ false
+pub inner_open : (stress : Bool) (e : AuditEvent) → IsInner e → closes_part stress e ≡ false
 inner_open true seen.SubRunFinished inner = absurd inner
 inner_open true e inner = refl
 inner_open false seen.RunFinished inner = absurd inner

@@ -2,3 +2,4 @@ pub mod Within
 pub mod Plain
 pub mod Told
 pub mod Due
+pub mod Split

@@ -4,8 +4,10 @@
 //! `run_audit_model`. It stands on the lemmas of the other crates of laws.
 #![tactic(auto)]
 
+mod known;
 mod laws;
 
+pub use known::{known_script_status, known_status, known_told};
 pub use laws::{
     told_accounts_are_kept, told_cancels_are_kept, told_events_are_kept, told_limits_are_kept,
     told_of_sub_runs, told_parts_are_sub_runs, told_scripts_are_kept, told_shapes_are_kept,

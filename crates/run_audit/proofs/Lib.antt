@@ -1,0 +1,10 @@
+mod JudgeLemmas
+mod RunLemmas
+mod NeedLemmas
+mod StopLemmas
+mod DueLemmas
+mod ScriptDueLemmas
+mod AccountLemmas
+mod PartLemmas
+mod TellableLemmas
+mod DueStopLemmas

@@ -1,0 +1,4 @@
+pub mod Audit
+pub mod Needs
+pub mod Stops
+pub mod Told

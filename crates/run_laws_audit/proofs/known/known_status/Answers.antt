@@ -1,0 +1,8 @@
+use Rattle.run_laws_audit.proofs.PlainLemmas.{status_plain}
+use Rattle.run_laws_audit.proofs.known.known_status.Goals as goal
+
+pub returns : goal.returns
+returns c =
+    status_plain c.args.status.now c.known_count.ensures c.known_count-2.ensures c.known_number.ensures
+    c.known_number-2.ensures c.known_number-3.ensures c.known_result.ensures c.known_output.ensures.streams
+    c.known_output.ensures.errors
