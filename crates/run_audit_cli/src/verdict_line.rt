@@ -1,0 +1,42 @@
+// The line of a verdict, and its status.
+ghost use Rattle.std.specs.Prelude.{◌≡◌, ◌++◌, codes, decimal, IfOk};
+ghost use Rattle.run_audit_cli.specs.Verdicts.{audit_status, verdict_line_text};
+
+use itoa::Buffer;
+use run_audit_model::Verdict;
+use run_capture::{Mem, Text};
+use std::alloc::Global;
+
+/// The status of a verdict.
+pub fn status_of_verdict(verdict: Verdict) -> u8
+    ensures { result ≡ audit_status verdict }
+{
+    match verdict {
+        Verdict::Yes => 0,
+        Verdict::No { .. } => 1,
+    }
+}
+
+// The line of a law that is broken at a place.
+fn broken_line(alloc: Global, law: u32, place: u64) -> Mem<Text>
+    ensures { IfOk result (λ text. text ≡ codes "{\"law\":" ++ decimal law ++ codes ",\"place\":" ++ decimal place
+        ++ codes ",\"verdict\":\"no\"}") }
+{
+    let mut digits = Buffer::new();
+    let mut text = Text::from_str(alloc, "{\"law\":")?;
+    text.push_str(alloc, digits.format(law))?;
+    text.push_str(alloc, ",\"place\":")?;
+    text.push_str(alloc, digits.format(place))?;
+    text.push_str(alloc, ",\"verdict\":\"no\"}")?;
+    Ok(text)
+}
+
+/// The line of a verdict, without its line feed: its keys in byte order.
+pub fn verdict_line(alloc: Global, verdict: Verdict) -> Mem<Text>
+    ensures { IfOk result (λ text. text ≡ verdict_line_text verdict) }
+{
+    match verdict {
+        Verdict::Yes => Text::from_str(alloc, "{\"verdict\":\"yes\"}"),
+        Verdict::No { law, place } => broken_line(alloc, law, place),
+    }
+}
