@@ -83,15 +83,14 @@ scan_says others turns event_lines number x =
 
 -- turns that are said
 said_turns : (o : Option (List Turn)) → IsSome o → (turns : List Turn) × (o ≡ Some turns)
-said_turns None some = absurd some
+said_turns None some = cc
 said_turns (Some turns) some = (turns, refl)
 
 scan_no_turn : (others : List (List ℕ)) (number : ℕ) → IsFirstNoTurn others number
     → (n : ℕ) × (scan 2 others ≡ Err n)
 scan_no_turn others number x =
     let n = 2 + length x.before in
-    let (turns, are) = said_turns (turns_said x.before) x.good in
-    (
+    let (turns, are) = said_turns (turns_said x.before) x.good in (
       n,
       ap (scan 2) x.split ∙ scan_turns 2 x.before (x.bad ∷ x.after) turns are
           ∙ ap (λ said. with_turns turns (scan_said said n x.after (scan (n + 1) x.after))) x.outside
@@ -101,15 +100,14 @@ scan_no_turn others number x =
 scan_no_mark : (others : List (List ℕ)) (number : ℕ) → LacksMark others number → (n : ℕ) × (scan 2 others ≡ Err n)
 scan_no_mark others number x =
     let n = 2 + length others in
-    let (turns, are) = said_turns (turns_said others) x.0 in
-    (
+    let (turns, are) = said_turns (turns_said others) x.0 in (
       n,
       ap (scan 2) (sym (append-nil others)) ∙ scan_turns 2 others [] turns are ∙ turns_bad turns n,
     )
 
 never_both : {A E X : Type 0} (r : Result A E) (a : A) (e : E) → r ≡ Ok a → r ≡ Err e → X
-never_both (Ok b) a e is no = cc
-never_both (Err f) a e is no = cc
+never_both (Ok b) a e is not_so = cc
+never_both (Err f) a e is not_so = cc
 
 same_ok : {A E : Type 0} (a b : A) → ◌≡◌ {A = Result A E} (Ok a) (Ok b) → a ≡ b
 same_ok a b e = cc
@@ -168,8 +166,7 @@ one_audit (first ∷ others) k l p q ts us es fs (head, (ls, n, says, are)) (fac
     let scanned = scan_says others ts ls n says in
     let again = scan_says others us ms m also in
     let same : (us, ms) ≡ (ts, ls) = same_ok _ _ (sym again ∙ scanned) in
-    let lines : ms ≡ ls = ap (λ (p : List Turn × List (List ℕ)). p.1) same in
-    (
+    let lines : ms ≡ ls = ap (λ (p : List Turn × List (List ℕ)). p.1) same in (
       same_Some (l, q) (k, p) (sym face ∙ head),
       ap (λ (p : List Turn × List (List ℕ)). p.0) same,
       same_Some fs es (sym too ∙ ap events_said lines ∙ are),

@@ -1,11 +1,11 @@
 -- Event lines, so far as they were read.
 use Rattle.std.proofs.Common.{◌≡◌, ◌∙◌, ℕ, ◌+◌, ◌≤◌, ◌<◌, List, [], ◌∷◌, ◌++◌, length, Option, Some, None}
 use Rattle.std.proofs.Common.{option_and_then, refl, ap, sym, arith, length-append}
-use Rattle.std.proofs.lemmas.List.{append-nil, append_assoc}
+use Rattle.std.proofs.lemmas.List.{append_assoc}
 use Rattle.std.proofs.lemmas.Option.{none-some, same_Some}
 use Rattle.run_input.specs.Lines.{lines_of}
 use Rattle.run_audit_model.specs.declared.audit_event.AuditEvent.{AuditEvent}
-use Rattle.run_audit_cli.specs.AuditLines.{IsFirstNoEvent, events_said, seen_line_of, seen_first}
+use Rattle.run_audit_cli.specs.AuditLines.{events_said, seen_line_of, seen_first}
 use Rattle.run_audit_cli.specs.AuditRead.{with_last}
 
 -- what a line and the lines after it tell
@@ -48,9 +48,6 @@ pub record ReadSeen (start : ℕ) (bytes rest : List ℕ) (events : List AuditEv
   pub counted : number ≡ start + length read
   pub room : number + length rest ≤ start + length bytes
 
-pub seen_none : (start : ℕ) (bytes : List ℕ) → ReadSeen start bytes bytes [] start
-seen_none start bytes = record { read = []; split = refl; said = refl; counted = omega arith; room = omega arith }
-
 pub seen_more : (start : ℕ) (bytes rest after line : List ℕ) (events : List AuditEvent) (seen : Option AuditEvent)
     (number : ℕ) → ReadSeen start bytes rest events number → lines_of rest ≡ line ∷ lines_of after
     → length after < length rest → seen_line_of line ≡ Some seen
@@ -62,25 +59,4 @@ seen_more start bytes rest after line events seen number so_far first shorter sa
   said = events_push so_far.read line events seen so_far.said says;
   counted = omega (arith, so_far.counted, length-append so_far.read (line ∷ []));
   room = omega (arith, so_far.room);
-}
-
--- with no byte left the events are those of all lines
-pub seen_all : (start : ℕ) (bytes rest : List ℕ) (events : List AuditEvent) (number : ℕ)
-    → ReadSeen start bytes rest events number → rest ≡ [] → events_said (lines_of bytes) ≡ Some events
-seen_all start bytes rest events number so_far done =
-    ap events_said (so_far.split ∙ ap (λ left. so_far.read ++ lines_of left) done ∙ append-nil so_far.read)
-    ∙ so_far.said
-
--- the next line is the first bad one where no event is read of it
-pub seen_bad : (start : ℕ) (bytes rest after line : List ℕ) (events : List AuditEvent) (number : ℕ)
-    → ReadSeen start bytes rest events number → lines_of rest ≡ line ∷ lines_of after → seen_line_of line ≡ None
-    → IsFirstNoEvent start (lines_of bytes) number
-seen_bad start bytes rest after line events number so_far first outside = record {
-  before = so_far.read;
-  bad = line;
-  after = lines_of after;
-  split = so_far.split ∙ ap (λ lines. so_far.read ++ lines) first;
-  good = rw so_far.said refl;
-  outside = outside;
-  counted = so_far.counted;
 }

@@ -1,15 +1,14 @@
 -- The lines after the first up to the one that event lines follow, so far as they were read.
-use Rattle.std.proofs.Common.{◌≡◌, ◌∙◌, ℕ, ◌+◌, ◌≤◌, ◌<◌, List, [], ◌∷◌, ◌++◌, length, Some, None, Option}
-use Rattle.std.proofs.Common.{option_map, refl, ap, sym, arith}
+use Rattle.std.proofs.Common.{◌≡◌, ℕ, ◌+◌, ◌≤◌, ◌<◌, List, [], ◌∷◌, ◌++◌, length, Some, None, Option}
+use Rattle.std.proofs.Common.{option_map, arith}
 use Rattle.std.specs.Option.{option_or}
-use Rattle.std.proofs.lemmas.List.{append-nil}
 use Rattle.std.proofs.lemmas.Option.{none-some, same_Some}
 use Rattle.run_events.specs.declared.turn.Turn.{Turn}
 use Rattle.run_input.specs.Input.{turn_line_of}
 use Rattle.run_input.specs.Lines.{lines_of}
-use Rattle.run_input.proofs.InputLemmas.{ReadSoFar, read_all_lines, read_more}
+use Rattle.run_input.proofs.InputLemmas.{ReadSoFar, read_more}
 use Rattle.run_cli.proofs.GivenLemmas.{turns_length}
-use Rattle.run_audit_cli.specs.AuditLines.{IsFirstNoTurn, LacksMark, SaysTurns, turn_or_mark_of}
+use Rattle.run_audit_cli.specs.AuditLines.{turn_or_mark_of}
 
 -- a line that says a turn is a turn line
 turn_or : (said : Option Turn) (marked : Option (Unit {0})) (turn : Turn)
@@ -25,43 +24,8 @@ next_turn bytes rest after line turns turn number so_far first shorter says =
     read_more bytes rest after line turns turn number so_far first shorter
     (turn_or (turn_line_of line) _ turn says)
 
--- the line that event lines follow
-pub turns_end : (bytes rest after line : List ℕ) (turns : List Turn) (number : ℕ) → ReadSoFar bytes rest turns number
-    → lines_of rest ≡ line ∷ lines_of after → turn_or_mark_of line ≡ Some None
-    → SaysTurns (lines_of bytes) turns (lines_of after) (number + 1)
-turns_end bytes rest after line turns number so_far first marks = record {
-  turn_lines = so_far.read;
-  mark = line;
-  split = so_far.split ∙ ap (λ lines. so_far.read ++ lines) first;
-  say = so_far.said;
-  marks = marks;
-  counted = omega (arith, so_far.counted);
-}
-
 -- no more turns than bytes
 pub turns_few : (bytes rest : List ℕ) (turns : List Turn) (number : ℕ) → ReadSoFar bytes rest turns number
     → length turns ≤ length bytes
 turns_few bytes rest turns number so_far =
     omega (arith, turns_length so_far.read turns so_far.said, so_far.counted, so_far.room)
-
--- the next line is the first bad one where it says neither
-pub no_turn : (bytes rest after line : List ℕ) (turns : List Turn) (number : ℕ) → ReadSoFar bytes rest turns number
-    → lines_of rest ≡ line ∷ lines_of after → turn_or_mark_of line ≡ None → IsFirstNoTurn (lines_of bytes) number
-no_turn bytes rest after line turns number so_far first outside = record {
-  before = so_far.read;
-  bad = line;
-  after = lines_of after;
-  split = so_far.split ∙ ap (λ lines. so_far.read ++ lines) first;
-  good = rw so_far.said refl;
-  outside = outside;
-  counted = so_far.counted;
-}
-
--- with no byte left the line that event lines follow is missing
-pub no_mark : (bytes rest : List ℕ) (turns : List Turn) (number : ℕ) → ReadSoFar bytes rest turns number → rest ≡ []
-    → LacksMark (lines_of bytes) number
-no_mark bytes rest turns number so_far done =
-    let lines : lines_of bytes ≡ so_far.read =
-    so_far.split ∙ ap (λ left. so_far.read ++ lines_of left) done ∙ append-nil so_far.read in
-    let said = read_all_lines bytes rest turns number so_far done in
-    (rw said refl, so_far.counted ∙ ap (λ lines. length lines + 2) (sym lines))

@@ -46,13 +46,13 @@ IsOverBy p turns past =
 -- where the verdict could be written; and where it couldn't
 pub record GetsJudged (p : Settings) (turns : List Turn) (events : List AuditEvent) (w : Writing) (status : ℕ)
     : Type 0 where
-    pub stops : (place : ℕ) (third : Bool) → Stops p turns refuses_none place third → Gets status (stop_status third)
-    pub unfinished : GoesOn p turns refuses_none → Gets status 8
-    pub kept : (past : List Happening) → IsOverBy p turns past → KeepsRun p past events → ¬ HasWriteFault w
-        → Gets status 0
-    pub broken : (past : List Happening) → IsOverBy p turns past → ¬ KeepsRun p past events → ¬ HasWriteFault w
-        → Gets status 1
-    pub unreported : (o : RunOutcome) → Ends p turns refuses_none o → w.faults < w.faults_after → Gets status 9
+  pub stops : (place : ℕ) (third : Bool) → Stops p turns refuses_none place third → Gets status (stop_status third)
+  pub unfinished : GoesOn p turns refuses_none → Gets status 8
+  pub kept : (past : List Happening) → IsOverBy p turns past → KeepsRun p past events → ¬ HasWriteFault w
+      → Gets status 0
+  pub broken : (past : List Happening) → IsOverBy p turns past → ¬ KeepsRun p past events → ¬ HasWriteFault w
+      → Gets status 1
+  pub unreported : (o : RunOutcome) → Ends p turns refuses_none o → w.faults < w.faults_after → Gets status 9
 
 -- the statuses that there are
 abbrev pub audit_statuses : List ℕ

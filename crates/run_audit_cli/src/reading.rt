@@ -31,10 +31,7 @@ fn at_line(number: u64, error: LineError) -> InputError
 
 // Reads the lines after the first, whose numbers start at 2, up to the one that event lines follow: the turns, the
 // bytes of the event lines, and the number of the first of these.
-fn read_turns<'a>(
-    alloc: Global,
-    bytes: &'a [u8],
-) -> Result<(List<Turn>, &'a [u8], u64), InputError>
+fn read_turns<'a>(alloc: Global, bytes: &'a [u8]) -> Result<(List<Turn>, &'a [u8], u64), InputError>
     ensures ok { IfOk result (λ said. SaysTurns (lines_of bytes.now) said.0 (lines_of said.1.now) said.2) }
     ensures few { IfOk result (λ said. length said.0 ≤ length bytes.now) }
     ensures room { IfOk result (λ said. said.2 + length said.1.now ≤ length bytes.now + 2) }
@@ -72,11 +69,7 @@ fn add_seen(
 }
 
 // Reads event lines, the first of which has this number.
-fn read_events(
-    alloc: Global,
-    bytes: &[u8],
-    start: u64,
-) -> Result<List<AuditEvent>, InputError>
+fn read_events(alloc: Global, bytes: &[u8], start: u64) -> Result<List<AuditEvent>, InputError>
     requires { start + length bytes.now < 2 ^ 64 }
     ensures ok { IfOk result (λ events. events_said (lines_of bytes.now) ≡ Some events) }
     ensures refused { IfErr result (IsRefusedEventPart start (lines_of bytes.now)) }
@@ -97,10 +90,7 @@ fn read_events(
 }
 
 // Reads the lines after the first: turns, and events.
-fn read_later(
-    alloc: Global,
-    bytes: &[u8],
-) -> Result<(List<Turn>, List<AuditEvent>), InputError>
+fn read_later(alloc: Global, bytes: &[u8]) -> Result<(List<Turn>, List<AuditEvent>), InputError>
     ensures ok { IfOk result (λ said. SaysLater (lines_of bytes.now) said.0 said.1) }
     ensures few { IfOk result (λ said. length said.0 ≤ length bytes.now) }
     ensures refused { IfErr result (IsRefusedLater (lines_of bytes.now)) }

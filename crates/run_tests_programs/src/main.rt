@@ -128,7 +128,9 @@ fn main(rt: HostRuntime) -> io::Result<ExitCode> {
     let reruns = unmet(&rt, Rows::Reruns, "reruns.txt")?;
     let jobs = unmet(&rt, Rows::Of(Program::Jobs), "jobs.txt")?;
     let audits = unmet(&rt, Rows::Of(Program::Audits), "audits.txt")?;
-    println!(rt; "{stores} rows of stores differ, {reruns} of reruns, {jobs} of jobs, {audits} of audits")?;
+    println!(rt;
+        "{stores} rows of stores differ, {reruns} of reruns, {jobs} of jobs, {audits} of audits"
+    )?;
     Ok(if stores == 0 && reruns == 0 && jobs == 0 && audits == 0 && are_met {
         ExitCode::SUCCESS
     } else {
