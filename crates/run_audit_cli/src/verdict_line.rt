@@ -17,18 +17,25 @@ pub fn status_of_verdict(verdict: Verdict) -> u8
     }
 }
 
+// A text, then a number and a text.
+fn with_number(alloc: Global, text: Text, number: u64, after: &str) -> Mem<Text>
+    ensures { IfOk result (λ t. t ≡ text ++ decimal number ++ after.now) }
+{
+    let mut digits = Buffer::new();
+    let mut text = text;
+    text.push_str(alloc, digits.format(number))?;
+    text.push_str(alloc, after)?;
+    Ok(text)
+}
+
 // The line of a law that is broken at a place.
 fn broken_line(alloc: Global, law: u32, place: u64) -> Mem<Text>
     ensures { IfOk result (λ text. text ≡ codes "{\"law\":" ++ decimal law ++ codes ",\"place\":" ++ decimal place
         ++ codes ",\"verdict\":\"no\"}") }
 {
-    let mut digits = Buffer::new();
-    let mut text = Text::from_str(alloc, "{\"law\":")?;
-    text.push_str(alloc, digits.format(law))?;
-    text.push_str(alloc, ",\"place\":")?;
-    text.push_str(alloc, digits.format(place))?;
-    text.push_str(alloc, ",\"verdict\":\"no\"}")?;
-    Ok(text)
+    let text = Text::from_str(alloc, "{\"law\":")?;
+    let text = with_number(alloc, text, law as u64, ",\"place\":")?;
+    with_number(alloc, text, place, ",\"verdict\":\"no\"}")
 }
 
 /// The line of a verdict, without its line feed: its keys in byte order.
