@@ -1,1 +1,1 @@
-mod FloatLemmas
+pub mod FloatLemmas

@@ -7,4 +7,4 @@ mod event_name;
 mod line;
 mod reading;
 
-pub use line::read_event_line;
+pub use line::{event_of, read_event_line};

@@ -112,9 +112,9 @@ fn event_by(alloc: Global, name: EventName, event: &Value) -> Result<AuditEvent,
     }
 }
 
-// The event that a value tells.
+/// The event that a value without floats tells, as an auditor sees it: refused as `read_event_line` refuses its line.
 #[tactic(auto, unfolding(crate::specs::EventLine::audit_event_of))]
-fn event_of(alloc: Global, event: &Value) -> Result<AuditEvent, Refusal>
+pub fn event_of(alloc: Global, event: &Value) -> Result<AuditEvent, Refusal>
     requires { has_float (view event.now) ≡ false }
     ensures { ReadsValue result (audit_event_of (view event.now)) }
 {

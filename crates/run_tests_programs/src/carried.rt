@@ -12,6 +12,7 @@ use std::{fs, io};
 pub enum Program {
     Stores,
     Jobs,
+    Audits,
 }
 
 /// A status, and what was written.
@@ -109,6 +110,7 @@ pub fn answer_to(
     let Ran { status, sink } = match program {
         Program::Stores => run_store_cli::run(alloc, words, &mut source, sink),
         Program::Jobs => answer_of_jobs(alloc, words, &mut source, sink),
+        Program::Audits => run_audit_cli::run(alloc, words, &mut source, sink),
     };
     let mut written = Vec::new(alloc);
     written.extend_from_slice(sink.bytes())?;

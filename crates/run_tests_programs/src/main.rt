@@ -1,7 +1,7 @@
-//! Worked rows of the programs of stores, of reruns and of jobs: whole inputs, stores and chains of stores that the
-//! top calls carry out from memory into memory. The folder `data/` has the tables of the rows, their inputs, and of
-//! each the whole of what is to be written. One store is also played with each of its front parts and with each of
-//! its bytes changed, and of a longer one the fronts at the ends of its records. Each byte and each status is
+//! Worked rows of the programs of stores, of reruns, of jobs and of audits: whole inputs, stores and chains of stores
+//! that the top calls carry out from memory into memory. The folder `data/` has the tables of the rows, their inputs,
+//! and of each the whole of what is to be written. One store is also played with each of its front parts and with each
+//! of its bytes changed, and of a longer one the fronts at the ends of its records. Each byte and each status is
 //! compared, and how many stores of a chain are opened and given back. A line is printed for each row; where a row
 //! differs, what was written follows.
 #![tactic(auto)]
@@ -127,8 +127,11 @@ fn main(rt: HostRuntime) -> io::Result<ExitCode> {
     let are_met = are_damaged_met(&rt)?;
     let reruns = unmet(&rt, Rows::Reruns, "reruns.txt")?;
     let jobs = unmet(&rt, Rows::Of(Program::Jobs), "jobs.txt")?;
-    println!(rt; "{stores} rows of stores differ, {reruns} of reruns, {jobs} of jobs")?;
-    Ok(if stores == 0 && reruns == 0 && jobs == 0 && are_met {
+    let audits = unmet(&rt, Rows::Of(Program::Audits), "audits.txt")?;
+    println!(rt;
+        "{stores} rows of stores differ, {reruns} of reruns, {jobs} of jobs, {audits} of audits"
+    )?;
+    Ok(if stores == 0 && reruns == 0 && jobs == 0 && audits == 0 && are_met {
         ExitCode::SUCCESS
     } else {
         ExitCode::FAILURE

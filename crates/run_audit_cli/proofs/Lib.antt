@@ -1,0 +1,8 @@
+mod WordLemmas
+mod TurnLemmas
+mod SeenLemmas
+mod ScanLemmas
+mod VerdictLemmas
+mod FoundLemmas
+mod CourseCauses
+mod CauseLemmas
