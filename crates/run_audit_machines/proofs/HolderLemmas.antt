@@ -1,6 +1,6 @@
 -- Seats clash just where they have the same slot.
 use Rattle.std.proofs.Common.{◌≡◌, ◌∙◌, ℕ, zero, suc, nat_eq, List, [], ◌∷◌, Option, Some, None, option_map}
-use Rattle.std.proofs.Common.{Bool, true, false, ◌&&◌, ◌||◌, not, refl, ap₂}
+use Rattle.std.proofs.Common.{Bool, true, false, ◌&&◌, ◌||◌, not, if◌then◌else◌, refl, ap₂}
 use Rattle.std.specs.List.{list_all}
 use Rattle.run_events.specs.declared.plan.Group.{Group}
 use Rattle.run_events.specs.declared.plan.TestSlotAssignment.{TestSlotAssignment}
