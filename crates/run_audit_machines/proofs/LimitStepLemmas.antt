@@ -2,31 +2,23 @@
 -- and the seats that it would clash with.
 use Rattle.std.specs.Prelude.{slice_get}
 use Rattle.std.proofs.Common.{◌≡◌, ◌∙◌, ℕ, nat_eq, nat_le, List, [], ◌∷◌, map, set, sum_by, Option, Some, None}
-use Rattle.std.proofs.Common.{Bool, true, false, ◌&&◌, if◌then◌else◌, refl, ap, ap₂, subst, arith}
+use Rattle.std.proofs.Common.{Bool, true, false, if◌then◌else◌, refl, ap, subst, arith}
 use Rattle.std.specs.List.{list_all}
 use Rattle.std.specs.Option.{option_map_or}
 use lib.Pointwise.{bytes_decides, pointwise}
 use Rattle.std.proofs.lemmas.Bool.{and_from, and_parts}
 use Rattle.run_events.specs.declared.plan.Group.{Group}
 use Rattle.run_events.specs.declared.plan.PlanTest.{PlanTest}
-use Rattle.run_events.specs.declared.plan.TestInstanceId.{TestInstanceId}
 use Rattle.run_laws_events.specs.PlanLimits.{group_named, is_of_group}
-use Rattle.run_model.specs.Reruns.{is_one_test}
 use Rattle.run_audit_model.specs.declared.audit_event.AuditEvent.{AuditEvent}
-use Rattle.run_audit_machines.specs.Accounts.{IsOnlyAt}
 use Rattle.std.proofs.Common.{sym}
 use Rattle.std.proofs.lemmas.Option.{cond_some}
 use Rattle.run_audit_machines.specs.Limits.{limit_part, no_seats}
-use Rattle.run_audit_machines.specs.Limits.{Seat, Seated, SeatsNow, are_apart, keeps_limit, keeps_seats, may_seat}
+use Rattle.run_audit_machines.specs.Limits.{Seat, Seated, SeatsNow, keeps_limit, keeps_own, keeps_seats, may_seat}
 use Rattle.run_audit_machines.specs.Limits.{seat_group_weight, seat_weight, seated_after}
-use Rattle.run_audit_machines.proofs.ClashLemmas.{apart_set, others_apart, same_answer}
+use Rattle.run_audit_machines.proofs.ClashLemmas.{same_answer}
 use Rattle.run_audit_machines.proofs.LimitLemmas.{all_found}
-use Rattle.run_audit_machines.proofs.SeatStepLemmas.{TellsOnly, seats_set, sum_set}
-
--- the group of a name keeps its limit, where a name is there
-abbrev pub keeps_own : List Group → List Seated → Option (List ℕ) → Bool
-keeps_own groups seats None = true
-keeps_own groups seats (Some name) = keeps_limit seats name (group_named name groups)
+use Rattle.run_audit_machines.proofs.SeatStepLemmas.{sum_set}
 
 -- a seat of a test of another group adds nothing to the sum of a group, before and after
 other_weight : (name : List ℕ) (limit : ℕ) (test : PlanTest) (seat : Seat) → is_of_group name test ≡ false
@@ -114,27 +106,6 @@ groups_set all seats place test old new kept is =
     (λ still. own_there all after still test.group)
     (λ own. all_kept (keeps_group all seats) (keeps_group all after)
     (group_kept all seats place test old new is own) all kept)
-
--- whether an event may come that tells only of the test at a place
-pub may_set : (now : SeatsNow) (own : TestInstanceId) (e : AuditEvent) (place : ℕ) (test : PlanTest) (seat : Seat)
-    → keeps_seats now ≡ true → TellsOnly own e → IsOnlyAt (is_one_test own) (map (λ s. s.0.id) now.seats) place
-    → slice_get now.seats place ≡ Some (test, seat)
-    → may_seat now e
-    ≡ (nat_le (sum_by (seat_weight now.settings.threads) (set now.seats place (seated_after e (test, seat))))
-    now.settings.threads
-    && (keeps_own now.settings.plan.groups (set now.seats place (seated_after e (test, seat))) test.group
-    && others_apart now.settings.plan.groups (seated_after e (test, seat)) place now.seats))
-may_set now own e place test seat kept only at is =
-    let groups = now.settings.plan.groups in
-    let new = seated_after e (test, seat) in
-    let parts = and_parts (nat_le (sum_by (seat_weight now.settings.threads) now.seats) now.settings.threads) _ kept in
-    let more = and_parts (list_all (keeps_group groups now.seats) groups) (are_apart groups now.seats) parts.1 in
-    ap (λ seats. keeps_seats (record { settings = now.settings; seats = seats }))
-    (seats_set own e only now.seats place (test, seat) at is)
-    ∙ ap₂ (λ a b. nat_le (sum_by (seat_weight now.settings.threads) (set now.seats place new)) now.settings.threads
-    && (a && b))
-    (groups_set groups now.seats place test seat new.1 more.0 is)
-    (apart_set groups now.seats place (test, seat) new more.1 is)
 
 -- an event that leaves the seats is taken
 abbrev with_seats : SeatsNow → List Seated → SeatsNow

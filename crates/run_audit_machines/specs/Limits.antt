@@ -53,6 +53,11 @@ abbrev pub keeps_limit : List Seated → List ℕ → Option Group → Bool
 keeps_limit seats name None = true
 keeps_limit seats name (Some group) = nat_le (sum_by (seat_group_weight name group.limit) seats) group.limit
 
+-- the group of a name keeps its limit, where a name is there
+abbrev pub keeps_own : List Group → List Seated → Option (List ℕ) → Bool
+keeps_own groups seats None = true
+keeps_own groups seats (Some name) = keeps_limit seats name (group_named name groups)
+
 -- two tests that run have the same slot: among all, or in one group of the plan
 abbrev pub is_same_number : Option ℕ → Option ℕ → Bool
 is_same_number None None = true

@@ -1,6 +1,6 @@
 -- The limits of groups by their names, as one group more comes.
 use Rattle.std.proofs.Common.{◌≡◌, ◌∙◌, ℕ, nat_eq, List, [], ◌∷◌, ◌++◌, Option, Some, None, option_map, is_some, cond}
-use Rattle.std.proofs.Common.{Bool, true, false, refl, sym, ap, subst, true≢false}
+use Rattle.std.proofs.Common.{Bool, true, false, refl, sym, ap, true≢false}
 use Rattle.std.specs.BTreeMap.{BTreeMap, get, is_at}
 use Rattle.std.specs.Cmp.Lexicographic.{slice_cmp, texts_ties}
 use Rattle.std.specs.Ordering.{nat_cmp}

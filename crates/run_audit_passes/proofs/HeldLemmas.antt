@@ -10,7 +10,7 @@ use Rattle.std.proofs.lemmas.Option.{same_Some}
 use Rattle.run_audit_machines.specs.Holders.{is_key, is_slot_free}
 use Rattle.run_audit_machines.specs.Machines.{IsSame}
 use Rattle.run_audit_machines.proofs.ClashLemmas.{same_answer}
-use Rattle.run_audit_passes.specs.LimitTable.{IsHeld, IsOwn, held_after, is_free_beside, is_it, left_held}
+use Rattle.run_audit_passes.specs.LimitTable.{IsHeld, StandsAlone, held_after, is_free_beside, is_it, left_held}
 
 -- ---- an item that is set
 
@@ -28,8 +28,8 @@ set_same (s ∷ items) (suc place) old is = ap (λ l. s ∷ l) (set_same items p
 
 -- ---- some item has a slot: that at a place, or another
 
-any_all : {S : Type 0} (test : S → Bool) (items : List S) → list_any test items ≡ not (list_all (λ x. not (test x))
-    items)
+any_all : {S : Type 0} (test : S → Bool) (items : List S)
+    → list_any test items ≡ not (list_all (λ x. not (test x)) items)
 any_all test [] = refl
 any_all test (s ∷ items) = by (test s) (any_all test items)
   where
@@ -106,7 +106,7 @@ key_there same is_same k (Some own) is = ap Some (sym ((is_same k own).0 is))
 
 left_are : {S K : Type 0} (same : K → K → Bool) (cmp : K → K → Ordering) (key : S → Option K) (held : K → Bool)
     (items : List S) (place : ℕ) (old : S) → IsSame same → ((a b : K) → is_at (cmp a) b ≡ same a b)
-    → IsHeld same key held items → IsOwn same key items place old → (k : K)
+    → IsHeld same key held items → StandsAlone same key items place old → (k : K)
     → left_held cmp held (key old) k ≡ not (is_slot_free same key (Some k) place items)
 left_are same cmp key held items place old is_same order held_are own k =
     let it = it_key same cmp is_same order k (key old) in
@@ -121,7 +121,7 @@ cond_or false b = refl
 
 pub held_changed : {S K : Type 0} (same : K → K → Bool) (cmp : K → K → Ordering) (key : S → Option K)
     (held after : K → Bool) (items : List S) (place : ℕ) (old new : S) → IsSame same
-    → ((a b : K) → is_at (cmp a) b ≡ same a b) → IsHeld same key held items → IsOwn same key items place old
+    → ((a b : K) → is_at (cmp a) b ≡ same a b) → IsHeld same key held items → StandsAlone same key items place old
     → ((k : K) → after k ≡ held_after cmp held (key old) (key new) k) → IsHeld same key after (set items place new)
 held_changed same cmp key held after items place old new is_same order held_are own are k =
     are k ∙ cond_or (is_it cmp (key new) k) (left_held cmp held (key old) k)
@@ -135,7 +135,7 @@ not_not false = refl
 
 pub free_beside : {S K : Type 0} (same : K → K → Bool) (cmp : K → K → Ordering) (key : S → Option K)
     (held : K → Bool) (items : List S) (place : ℕ) (old : S) → IsSame same
-    → ((a b : K) → is_at (cmp a) b ≡ same a b) → IsHeld same key held items → IsOwn same key items place old
+    → ((a b : K) → is_at (cmp a) b ≡ same a b) → IsHeld same key held items → StandsAlone same key items place old
     → (o : Option K) → is_free_beside cmp held (key old) o ≡ is_slot_free same key o place items
 free_beside same cmp key held items place old is_same order held_are own None = sym (free_none same key items place)
 free_beside same cmp key held items place old is_same order held_are own (Some k) =

@@ -9,12 +9,11 @@ use Rattle.std.specs.BTreeSet.{contains}
 use Rattle.std.specs.List.{list_any}
 use Rattle.std.specs.Option.{option_map_or}
 use Rattle.std.specs.Ordering.{nat_cmp}
-use Rattle.run_events.specs.declared.plan.Group.{Group}
 use Rattle.run_events.specs.declared.plan.PlanTest.{PlanTest}
 use Rattle.run_events.specs.declared.plan.TestInstanceId.{TestInstanceId}
 use Rattle.run_events.specs.declared.plan.TestSlotAssignment.{TestSlotAssignment}
 use Rattle.run_events.specs.declared.settings.Settings.{Settings}
-use Rattle.run_laws_events.specs.PlanLimits.{group_named, is_of_group}
+use Rattle.run_laws_events.specs.PlanLimits.{is_of_group}
 use Rattle.run_model.specs.Reruns.{is_one_test}
 use Rattle.run_audit_model.specs.declared.audit_event.AuditEvent.{AuditEvent}
 use Rattle.run_audit_model.specs.declared.audit_event.AuditEvent.TheVariants as seen
@@ -198,9 +197,8 @@ abbrev pub Comes : SeatsNow → SeatsNow → AuditEvent → Bool → Type 0
 Comes before after e kept = (kept ≡ true → limit_part.takes before e ≡ Some after)
     × (kept ≡ false → limit_part.takes before e ≡ None)
 
-pub start_comes : (before after : SeatsNow) (own : TestInstanceId) (slots : TestSlotAssignment) (place : ℕ) (kept :
-    Bool)
-    → IsOnlyAt (is_one_test own) (map (λ s. s.0.id) before.seats) place
+pub start_comes : (before after : SeatsNow) (own : TestInstanceId) (slots : TestSlotAssignment) (place : ℕ)
+    (kept : Bool) → IsOnlyAt (is_one_test own) (map (λ s. s.0.id) before.seats) place
     → ((s : Seated) → slice_get before.seats place ≡ Some s
     → ChangesSeats before after place (seat_started s.1 slots) kept)
     → Comes before after (seen.TestStarted own slots) kept

@@ -1,8 +1,8 @@
 -- The table of a part's tests, as what was told of one of them changes.
 use Rattle.std.specs.Prelude.{slice_get}
-use Rattle.std.proofs.Common.{◌≡◌, ◌∙◌, ℕ, zero, suc, ◌+◌, ◌<◌, ◌≤◌, nat_eq, nat_le, List, [], ◌∷◌, length, map, set}
+use Rattle.std.proofs.Common.{◌≡◌, ◌∙◌, ℕ, zero, suc, ◌+◌, ◌<◌, ◌≤◌, nat_eq, nat_le, List, [], ◌∷◌, length, set}
 use Rattle.std.proofs.Common.{sum_by, not}
-use Rattle.std.proofs.Common.{Option, Some, None, is_some, Bool, true, false, ◌&&◌, cond, refl, sym, ap, ap₂, subst}
+use Rattle.std.proofs.Common.{Option, Some, is_some, Bool, true, false, ◌&&◌, cond, refl, sym, ap, ap₂, subst}
 use Rattle.std.proofs.Common.{true≢false, arith}
 use Rattle.std.specs.BTreeMap.{get}
 use Rattle.std.specs.List.{list_all}
@@ -10,16 +10,16 @@ use Rattle.std.specs.Ordering.{nat_cmp}
 use Rattle.std.proofs.lemmas.Bool.{and_parts}
 use Rattle.std.proofs.lemmas.Bool.Decides.{Decides-eqb}
 use Rattle.std.proofs.lemmas.Option.{same_Some}
-use Rattle.run_events.specs.declared.plan.Group.{Group}
 use Rattle.run_events.specs.declared.plan.PlanTest.{PlanTest}
 use Rattle.run_events.specs.declared.settings.Settings.{Settings}
 use Rattle.run_laws_events.specs.PlanLimits.{group_named}
 use Rattle.run_audit_machines.specs.Holders.{is_slot_free, own_group_slot, same_slot, slot_told}
-use Rattle.run_audit_machines.specs.Limits.{Seat, Seated, SeatsNow, are_apart, keeps_limit, keeps_seats, seat_weight}
+use Rattle.run_audit_machines.specs.Limits.{Seat, Seated, SeatsNow, are_apart, keeps_limit, keeps_own, keeps_seats}
+use Rattle.run_audit_machines.specs.Limits.{seat_weight}
 use Rattle.run_audit_machines.proofs.ClashLemmas.{apart_set, others_apart}
 use Rattle.run_audit_machines.proofs.HolderLemmas.{apart_by_slots}
-use Rattle.run_audit_machines.proofs.LimitStepLemmas.{groups_set, keeps_own}
-use Rattle.run_audit_passes.specs.LimitTable.{ChangesAll, ChangesGroups, ChangesSeats, ChangesTable, IsOwn}
+use Rattle.run_audit_machines.proofs.LimitStepLemmas.{groups_set}
+use Rattle.run_audit_passes.specs.LimitTable.{ChangesAll, ChangesGroups, ChangesSeats, ChangesTable, StandsAlone}
 use Rattle.run_audit_passes.specs.LimitTable.{IsTable, TakesAll}
 use Rattle.run_audit_passes.specs.LimitTable.{TakesGroups, TakesSeat, seat_at, seat_set, seats_from, seats_now}
 use Rattle.run_audit_passes.specs.declared.limit_table.LimitTable.{LimitTable}
@@ -120,8 +120,8 @@ there_within (x ∷ xs) (suc place) within = there_within xs place (omega (arith
 -- ---- while all limits are kept, no two have the same slot
 
 pub are_own : (now : SeatsNow) (place : ℕ) (s : Seated) → keeps_seats now ≡ true → slice_get now.seats place ≡ Some s
-    → IsOwn nat_eq slot_told now.seats place s
-    × IsOwn same_slot (own_group_slot now.settings.plan.groups) now.seats place s
+    → StandsAlone nat_eq slot_told now.seats place s
+    × StandsAlone same_slot (own_group_slot now.settings.plan.groups) now.seats place s
 are_own now place s kept is =
     let groups = now.settings.plan.groups in
     let parts = and_parts (nat_le (sum_by (seat_weight now.settings.threads) now.seats) now.settings.threads) _ kept in

@@ -1,8 +1,8 @@
 -- What is taken of the limits, as the seat of one test changes.
 use Rattle.std.specs.Prelude.{slice_get}
 use Rattle.std.proofs.Common.{◌≡◌, ◌∙◌, ℕ, ◌+◌, nat_eq, nat_le, nat_lt, List, set, sum_by, Option, Some, None, is_some}
-use Rattle.std.proofs.Common.{Bool, true, false, ◌&&◌, cond, if◌then◌else◌, option_map, unwrap_or, refl, sym, ap, ap₂}
-use Rattle.std.proofs.Common.{subst, true≢false}
+use Rattle.std.proofs.Common.{Bool, true, false, ◌&&◌, cond, if◌then◌else◌, option_map, unwrap_or, refl, sym, ap}
+use Rattle.std.proofs.Common.{ap₂, true≢false}
 use Rattle.std.proofs.Common.{arith}
 use Rattle.std.specs.BTreeMap.{BTreeMap, get, is_at}
 use Rattle.std.specs.BTreeSet.{contains}
@@ -20,13 +20,13 @@ use Rattle.run_events.specs.declared.plan.Group.{Group}
 use Rattle.run_events.specs.declared.plan.PlanTest.{PlanTest}
 use Rattle.run_laws_events.specs.PlanLimits.{group_named, group_of_plan, is_of_group}
 use Rattle.run_audit_machines.specs.Holders.{group_slot_told, is_slot_free, own_group_slot, same_slot, slot_told}
-use Rattle.run_audit_machines.specs.Limits.{Seat, Seated, is_same_number, is_seated, keeps_limit}
+use Rattle.run_audit_machines.specs.Limits.{Seat, Seated, is_same_number, keeps_limit, keeps_own}
 use Rattle.run_audit_machines.specs.Limits.{seat_group_weight, seat_weight}
 use Rattle.run_audit_machines.specs.Machines.{IsSame}
-use Rattle.run_audit_machines.proofs.LimitStepLemmas.{keeps_own, other_sum}
+use Rattle.run_audit_machines.proofs.LimitStepLemmas.{other_sum}
 use Rattle.run_audit_machines.proofs.SeatStepLemmas.{sum_set}
 use Rattle.run_audit_machines.proofs.SlotLemmas.{same_number}
-use Rattle.run_audit_passes.specs.LimitTable.{AreLimits, ChangesAll, ChangesGroups, IsOwn, TakesAll, TakesGroups}
+use Rattle.run_audit_passes.specs.LimitTable.{AreLimits, ChangesAll, ChangesGroups, StandsAlone, TakesAll, TakesGroups}
 use Rattle.run_audit_passes.specs.LimitTable.{group_slot_order, held_after, is_free_beside, slot_in_group, sum_in}
 use Rattle.run_audit_passes.specs.declared.taken.AllTaken.{AllTaken}
 use Rattle.run_audit_passes.specs.declared.taken.GroupsTaken.{GroupsTaken}
@@ -72,7 +72,7 @@ pub all_changed : (threads : ℕ) (before after : AllTaken) (old new : Seated) (
     → ((k : ℕ) → contains nat_cmp after.slots k
     ≡ held_after nat_cmp (contains nat_cmp before.slots) (slot_told old) (slot_told new) k)
     → kept ≡ (free && nat_le after.sum threads) → (seats : List Seated) (place : ℕ)
-    → TakesAll threads before seats → IsOwn nat_eq slot_told seats place old
+    → TakesAll threads before seats → StandsAlone nat_eq slot_told seats place old
     → ChangesAll threads after new kept seats place
 all_changed threads before after old new free kept sums frees helds is seats place takes own =
     let set_sum = sum_set (seat_weight threads) seats place old new own.there in
@@ -152,7 +152,7 @@ pub group_changed : (all : List Group) (group : Group) (name : List ℕ) (test :
     ≡ held_after group_slot_order (contains group_slot_order before.slots) (slot_in_group name old)
     (slot_in_group name new) k)
     → kept ≡ (free && nat_le sum group.limit) → (seats : List Seated) (place : ℕ) → TakesGroups all before seats
-    → IsOwn same_slot (own_group_slot all) seats place (test, old)
+    → StandsAlone same_slot (own_group_slot all) seats place (test, old)
     → ChangesGroups all after (test, new) kept seats place
 group_changed all group name test before after old new sum free kept named first sums put frees helds is seats place
     takes own =
@@ -255,7 +255,7 @@ no_slot all test seat none =
 
 pub none_changed : (all : List Group) (test : PlanTest) (taken : GroupsTaken) (old new : Seat) → IsOfNone all test
     → (seats : List Seated) (place : ℕ) → TakesGroups all taken seats
-    → IsOwn same_slot (own_group_slot all) seats place (test, old)
+    → StandsAlone same_slot (own_group_slot all) seats place (test, old)
     → ChangesGroups all taken (test, new) true seats place
 none_changed all test taken old new of seats place takes own =
     let held = contains group_slot_order taken.slots in

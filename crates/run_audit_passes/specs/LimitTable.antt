@@ -17,17 +17,17 @@ use Rattle.run_events.specs.declared.settings.Settings.{Settings}
 use Rattle.run_laws_events.specs.PlanLimits.{group_named}
 use Rattle.run_audit_machines.specs.Holders.{group_slot_told, is_key, is_slot_free, own_group_slot, same_slot}
 use Rattle.run_audit_machines.specs.Holders.{slot_told}
-use Rattle.run_audit_machines.specs.Limits.{Seat, Seated, SeatsNow, keeps_seats, no_seat, no_seats}
+use Rattle.run_audit_machines.specs.Limits.{Seat, Seated, SeatsNow, keeps_own, keeps_seats, no_seat}
+use Rattle.run_audit_machines.specs.Limits.{no_seats}
 use Rattle.run_audit_machines.specs.Limits.{seat_group_weight, seat_weight}
-use Rattle.run_audit_machines.proofs.LimitStepLemmas.{keeps_own}
 use Rattle.run_audit_passes.specs.declared.limit_table.LimitTable.{LimitTable}
 use Rattle.run_audit_passes.specs.declared.seat_told.SeatTold.{SeatTold}
 use Rattle.run_audit_passes.specs.declared.taken.AllTaken.{AllTaken}
 use Rattle.run_audit_passes.specs.declared.taken.GroupsTaken.{GroupsTaken}
 
 -- what was told of a test, and what it is once it was told started in some slots, or finished
-abbrev pub seat_of : SeatTold → Seat
-seat_of told = record { started = told.started; finished = told.finished; slots = told.slots }
+abbrev pub told_seat : SeatTold → Seat
+told_seat told = record { started = told.started; finished = told.finished; slots = told.slots }
 
 abbrev pub seat_started : Seat → TestSlotAssignment → Seat
 seat_started seat slots = record { started = seat.started + 1; finished = seat.finished; slots = Some slots }
@@ -37,7 +37,7 @@ seat_finished seat = record { started = seat.started; finished = seat.finished +
 
 -- what was told of the test at a place: nothing where nothing is kept
 abbrev pub seat_at : (ℕ → Option SeatTold) → ℕ → Seat
-seat_at told place = option_map_or seat_of (told place) no_seat
+seat_at told place = option_map_or told_seat (told place) no_seat
 
 -- the tests from a place on, each with that
 abbrev pub seats_from : (ℕ → Option SeatTold) → ℕ → List PlanTest → List Seated
@@ -70,7 +70,7 @@ abbrev pub IsHeld : {S K : Type 0} → (K → K → Bool) → (S → Option K) �
 IsHeld {S} {K} same key held items = (k : K) → held k ≡ list_any (is_key same key (Some k)) items
 
 -- an item stands at a place, and no other has its slot
-pub record IsOwn {S K : Type 0} (same : K → K → Bool) (key : S → Option K) (items : List S) (place : ℕ) (item : S)
+pub record StandsAlone {S K : Type 0} (same : K → K → Bool) (key : S → Option K) (items : List S) (place : ℕ) (item : S)
     : Type 0 where
   pub there : slice_get items place ≡ Some item
   pub free : is_slot_free same key (key item) place items ≡ true
@@ -137,11 +137,11 @@ pub record TakesSeat (p : Settings) (before after : LimitTable) (place : ℕ) (n
   pub told : after.told ≡ before.told
 
 -- what a seat that changes makes of the table, and whether all limits are kept
-pub record ChangesTable (p : Settings) (before after : LimitTable) (place : ℕ) (new : Seated) (kept : Bool) : Type 0
-  where
-    pub right : kept ≡ keeps_seats (seat_set (seats_now p before.told) place new)
-    pub table : kept ≡ true → IsTable p after
-    pub seats : seats_now p after.told ≡ seat_set (seats_now p before.told) place new
+pub record ChangesTable (p : Settings) (before after : LimitTable) (place : ℕ) (new : Seated) (kept : Bool)
+    : Type 0 where
+  pub right : kept ≡ keeps_seats (seat_set (seats_now p before.told) place new)
+  pub table : kept ≡ true → IsTable p after
+  pub seats : seats_now p after.told ≡ seat_set (seats_now p before.told) place new
 
 -- before a part: no test was told
 abbrev pub IsFirstTable : LimitTable → Type 0

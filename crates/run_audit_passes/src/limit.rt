@@ -2,7 +2,7 @@
 ghost use Rattle.std.specs.Prelude.{◌≡◌, ◌<◌, ◌++◌, ◌∷◌, [], List, length, map, slice_get, Some, IfOk, OnOk};
 ghost use Rattle.run_events.specs.declared.plan.Group.{Group as Limited};
 ghost use Rattle.run_audit_machines.specs.Limits.{Seated, no_seats};
-ghost use Rattle.run_audit_passes.specs.LimitTable.{AreLimits, ChangesSeats, IsFirstTable, seat_finished, seat_of};
+ghost use Rattle.run_audit_passes.specs.LimitTable.{AreLimits, ChangesSeats, IsFirstTable, seat_finished, told_seat};
 ghost use Rattle.run_audit_passes.specs.LimitTable.{seat_started};
 
 use crate::limit_table::{LimitTable, change, seat};
@@ -99,7 +99,7 @@ impl<'a> LimitPart<'a> {
 
     /// What was told of the test at a place.
     fn seat(&self, place: usize) -> Mem<SeatTold>
-        ensures { IfOk result (λ told. (s : Seated) → slice_get self.now.seats place ≡ Some s → seat_of told ≡ s.1) }
+        ensures { IfOk result (λ told. (s : Seated) → slice_get self.now.seats place ≡ Some s → told_seat told ≡ s.1) }
     {
         seat(self.alloc, &self.table.told, place)
     }
@@ -107,7 +107,7 @@ impl<'a> LimitPart<'a> {
     /// Sets that, and says whether all limits are kept, and its slots are no other's.
     fn set(&mut self, place: usize, new: SeatTold) -> Mem<bool>
         requires { place < length self.old.seats }
-        ensures { IfOk result (λ kept. ChangesSeats self.old self.new place (seat_of new) kept) }
+        ensures { IfOk result (λ kept. ChangesSeats self.old self.new place (told_seat new) kept) }
     {
         let broken = self.broken;
         if broken {

@@ -3,7 +3,7 @@ ghost use Rattle.std.specs.Prelude.{ℕ, ◌≡◌, ◌<◌, ◌&&◌, nat_eq, l
 ghost use Rattle.std.specs.BTreeMap.{get};
 ghost use Rattle.std.specs.Ordering.{nat_cmp};
 ghost use Rattle.run_events.specs.declared.plan.PlanTest.{PlanTest as Planned};
-ghost use Rattle.run_audit_passes.specs.LimitTable.{AreLimits, ChangesTable, IsTable, TakesSeat, seat_at, seat_of};
+ghost use Rattle.run_audit_passes.specs.LimitTable.{AreLimits, ChangesTable, IsTable, TakesSeat, seat_at, told_seat};
 
 use crate::seat_told::SeatTold;
 use crate::taken::{AllTaken, GroupsTaken, change_all, change_groups};
@@ -32,7 +32,7 @@ impl Drop for LimitTable {
 
 /// What was told of the test at a place.
 pub fn seat(alloc: Global, told: &BTreeMap<usize, SeatTold>, place: usize) -> Mem<SeatTold>
-    ensures { IfOk result (λ seat. seat_of seat ≡ seat_at (get nat_cmp told.now) place) }
+    ensures { IfOk result (λ seat. told_seat seat ≡ seat_at (get nat_cmp told.now) place) }
 {
     match told.get(&place) {
         Some(seat) => {
@@ -54,7 +54,7 @@ pub fn seat(alloc: Global, told: &BTreeMap<usize, SeatTold>, place: usize) -> Me
 /// Keeps what was told of the test at a place.
 fn put(told: &mut BTreeMap<usize, SeatTold>, place: usize, new: SeatTold) -> Mem<()>
     ensures { OnOk result ((q : ℕ) → seat_at (get nat_cmp told.new) q
-        ≡ cond (nat_eq place q) (seat_of new) (seat_at (get nat_cmp told.old) q)) }
+        ≡ cond (nat_eq place q) (told_seat new) (seat_at (get nat_cmp told.old) q)) }
 {
     told.insert(place, new)?;
     Ok(())
@@ -80,7 +80,7 @@ fn take(
     requires { place < length settings.now.plan.tests }
     ensures { IfOk result (λ kept. (test : Planned) → slice_get settings.now.plan.tests place ≡ Some test
         → AreLimits settings.now.plan.groups limits.now → IsTable settings.now table.old
-        → TakesSeat settings.now table.old table.new place (test, seat_of new.now) kept) }
+        → TakesSeat settings.now table.old table.new place (test, told_seat new.now) kept) }
 {
     let test = &settings.plan.tests.as_slice()[place];
     let old = seat(alloc, &table.told, place)?;
@@ -101,7 +101,7 @@ pub fn change(
     requires { place < length settings.now.plan.tests }
     ensures { IfOk result (λ kept. (test : Planned) → slice_get settings.now.plan.tests place ≡ Some test
         → AreLimits settings.now.plan.groups limits.now → IsTable settings.now table.old
-        → ChangesTable settings.now table.old table.new place (test, seat_of new) kept) }
+        → ChangesTable settings.now table.old table.new place (test, told_seat new) kept) }
 {
     let kept = take(alloc, table, settings, limits, place, &new)?;
     put(&mut table.told, place, new)?;

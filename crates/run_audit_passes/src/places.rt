@@ -22,7 +22,7 @@ use crate::{
 };
 use run_audit_model::{AuditEvent, first_stop};
 use run_capture::Mem;
-use run_events::Settings as Plan;
+use run_events::Settings as RunSettings;
 use std::alloc::Global;
 
 /// The first place at which the events can't be continued to the shape of a run of so many sub-runs.
@@ -79,7 +79,7 @@ pub fn test_place<N: TestPlaces + Drop, S: DueStatus + Drop>(
 
 /// The first place at which they can't be continued to a list in each part of which the tests that run keep the limits
 /// of the plan, and have slots of their own, after each event.
-pub fn limit_place(alloc: Global, settings: &Plan, events: &[AuditEvent]) -> Mem<Option<u64>>
+pub fn limit_place(alloc: Global, settings: &RunSettings, events: &[AuditEvent]) -> Mem<Option<u64>>
     requires { HasEachIdOnce settings.now }
     ensures { IfOk result (λ place. (past : List Happening)
         → IsPlaceOf (KeepsLaw settings.now past 3) events.now place) }

@@ -3,7 +3,7 @@ ghost use Rattle.std.specs.Prelude.{◌≡◌, ◌+◌, nat_lt, IfOk, option_map
 ghost use Rattle.run_events.specs.declared.plan.PlanTest.{PlanTest as Planned};
 ghost use Rattle.run_audit_machines.specs.Holders.{slot_told};
 ghost use Rattle.run_audit_machines.specs.Limits.{seat_weight};
-ghost use Rattle.run_audit_passes.specs.LimitTable.{seat_finished, seat_of, seat_started, slot_in_group};
+ghost use Rattle.run_audit_passes.specs.LimitTable.{seat_finished, told_seat, seat_started, slot_in_group};
 
 use run_capture::{Duplicate, Mem, OutOfMemory, Text};
 use run_events::{PlanTest, TestSlotAssignment};
@@ -39,7 +39,7 @@ fn one_more(count: u64) -> Mem<u64>
 
 /// Once it was told started in these slots.
 pub fn started(alloc: Global, seat: &SeatTold, slots: &TestSlotAssignment) -> Mem<SeatTold>
-    ensures { IfOk result (λ after. seat_of after ≡ seat_started (seat_of seat.now) slots.now) }
+    ensures { IfOk result (λ after. told_seat after ≡ seat_started (told_seat seat.now) slots.now) }
 {
     let started = one_more(seat.started)?;
     let slots = slots.copy(alloc)?;
@@ -52,7 +52,7 @@ pub fn started(alloc: Global, seat: &SeatTold, slots: &TestSlotAssignment) -> Me
 
 /// Once it was told finished.
 pub fn finished(alloc: Global, seat: &SeatTold) -> Mem<SeatTold>
-    ensures { IfOk result (λ after. seat_of after ≡ seat_finished (seat_of seat.now)) }
+    ensures { IfOk result (λ after. told_seat after ≡ seat_finished (told_seat seat.now)) }
 {
     let finished = one_more(seat.finished)?;
     let slots = seat.slots.copy(alloc)?;
@@ -72,7 +72,7 @@ fn runs(seat: &SeatTold) -> bool
 
 /// What the test takes of a limit.
 pub fn weight_of(test: &PlanTest, seat: &SeatTold, limit: u32) -> u64
-    ensures { result ≡ seat_weight limit (test.now, seat_of seat.now) }
+    ensures { result ≡ seat_weight limit (test.now, told_seat seat.now) }
 {
     if runs(seat) {
         test.weight.min(limit) as u64
@@ -83,7 +83,7 @@ pub fn weight_of(test: &PlanTest, seat: &SeatTold, limit: u32) -> u64
 
 /// The slot that it has among all tests, if it runs.
 pub fn slot_of(seat: &SeatTold) -> Option<u32>
-    ensures { (test : Planned) → result ≡ slot_told (test, seat_of seat.now) }
+    ensures { (test : Planned) → result ≡ slot_told (test, told_seat seat.now) }
 {
     if !runs(seat) {
         return None;
@@ -110,7 +110,7 @@ pub fn group_slot_of(
     name: &Text,
     seat: &SeatTold,
 ) -> Mem<Option<(Text, Option<u32>)>>
-    ensures { IfOk result (λ slot. slot ≡ slot_in_group name.now (seat_of seat.now)) }
+    ensures { IfOk result (λ slot. slot ≡ slot_in_group name.now (told_seat seat.now)) }
 {
     if !runs(seat) {
         return Ok(None);

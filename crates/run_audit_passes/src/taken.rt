@@ -6,8 +6,9 @@ ghost use Rattle.run_events.specs.declared.plan.Group.{Group};
 ghost use Rattle.run_laws_events.specs.PlanLimits.{group_named};
 ghost use Rattle.run_audit_machines.specs.Holders.{own_group_slot, same_slot, slot_told};
 ghost use Rattle.run_audit_machines.specs.Limits.{Seated};
-ghost use Rattle.run_audit_passes.specs.LimitTable.{AreLimits, ChangesAll, ChangesGroups, IsOwn, TakesAll, TakesGroups};
-ghost use Rattle.run_audit_passes.specs.LimitTable.{group_slot_order, held_after, is_free_beside, left_held, seat_of};
+ghost use Rattle.run_audit_passes.specs.LimitTable.{AreLimits, ChangesAll, ChangesGroups, StandsAlone, TakesAll};
+ghost use Rattle.run_audit_passes.specs.LimitTable.{TakesGroups};
+ghost use Rattle.run_audit_passes.specs.LimitTable.{group_slot_order, held_after, is_free_beside, left_held, told_seat};
 ghost use Rattle.run_audit_passes.specs.LimitTable.{slot_in_group, sum_in};
 
 use crate::seat_told::{SeatTold, group_slot_of, slot_of, weight_of};
@@ -79,8 +80,8 @@ pub fn change_all(
     new: &SeatTold,
 ) -> Mem<bool>
     ensures { IfOk result (λ kept. (seats : List Seated) (place : ℕ) → TakesAll threads all.old seats
-        → IsOwn nat_eq slot_told seats place (test.now, seat_of old.now)
-        → ChangesAll threads all.new (test.now, seat_of new.now) kept seats place) }
+        → StandsAlone nat_eq slot_told seats place (test.now, told_seat old.now)
+        → ChangesAll threads all.new (test.now, told_seat new.now) kept seats place) }
 {
     let sum = sum_after(
         all.sum,
@@ -129,10 +130,10 @@ fn change_slot(
     new: &SeatTold,
 ) -> Mem<bool>
     ensures free { IfOk result (λ free. free ≡ is_free_beside group_slot_order (contains group_slot_order slots.old)
-        (slot_in_group name.now (seat_of old.now)) (slot_in_group name.now (seat_of new.now))) }
+        (slot_in_group name.now (told_seat old.now)) (slot_in_group name.now (told_seat new.now))) }
     ensures held { OnOk result ((k : List ℕ × Option ℕ) → contains group_slot_order slots.new k
         ≡ held_after group_slot_order (contains group_slot_order slots.old)
-        (slot_in_group name.now (seat_of old.now)) (slot_in_group name.now (seat_of new.now)) k) }
+        (slot_in_group name.now (told_seat old.now)) (slot_in_group name.now (told_seat new.now)) k) }
 {
     let before = group_slot_of(alloc, name, old)?;
     let after = group_slot_of(alloc, name, new)?;
@@ -152,8 +153,8 @@ fn change_group(
     ensures { IfOk result (λ kept. (all : List Group) (group : Group) (seats : List Seated) (place : ℕ)
         → test.now.group ≡ Some name.now → group_named name.now all ≡ Some group → group.limit ≡ limit
         → TakesGroups all groups.old seats
-        → IsOwn same_slot (own_group_slot all) seats place (test.now, seat_of old.now)
-        → ChangesGroups all groups.new (test.now, seat_of new.now) kept seats place) }
+        → StandsAlone same_slot (own_group_slot all) seats place (test.now, told_seat old.now)
+        → ChangesGroups all groups.new (test.now, told_seat new.now) kept seats place) }
 {
     let before = weight_of(test, old, limit);
     let after = weight_of(test, new, limit);
@@ -173,8 +174,8 @@ pub fn change_groups(
 ) -> Mem<bool>
     ensures { IfOk result (λ kept. (all : List Group) (seats : List Seated) (place : ℕ)
         → AreLimits all limits.now → TakesGroups all groups.old seats
-        → IsOwn same_slot (own_group_slot all) seats place (test.now, seat_of old.now)
-        → ChangesGroups all groups.new (test.now, seat_of new.now) kept seats place) }
+        → StandsAlone same_slot (own_group_slot all) seats place (test.now, told_seat old.now)
+        → ChangesGroups all groups.new (test.now, told_seat new.now) kept seats place) }
 {
     let Some(name) = &test.group else {
         return Ok(true);

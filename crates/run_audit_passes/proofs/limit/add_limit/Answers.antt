@@ -1,4 +1,4 @@
-use Rattle.std.proofs.Common.{◌≡◌, ◌∙◌, sym}
+use Rattle.std.proofs.Common.{◌∙◌, sym}
 use Rattle.run_audit_passes.proofs.GroupLimitLemmas.{limits_added, limits_kept}
 use Rattle.run_audit_passes.proofs.limit.add_limit.Goals as goal
 

@@ -1,4 +1,4 @@
-use Rattle.std.proofs.Common.{◌≡◌, ◌∙◌, Option, None, ap, refl}
+use Rattle.std.proofs.Common.{ap, refl}
 use Rattle.std.specs.BTreeMap.{is_at}
 use Rattle.std.specs.List.{list_any}
 use Rattle.std.specs.Map.{lookup}

@@ -3,7 +3,7 @@ use Rattle.std.proofs.Common.{◌≡◌, ◌∙◌, length, Some, refl, sym, ap,
 use Rattle.std.specs.BTreeMap.{get}
 use Rattle.std.specs.Ordering.{nat_cmp}
 use Rattle.std.proofs.lemmas.Option.{same_Some, slice_get_read}
-use Rattle.run_audit_passes.specs.LimitTable.{TakesSeat, seat_of, seats_now}
+use Rattle.run_audit_passes.specs.LimitTable.{TakesSeat, told_seat, seats_now}
 use Rattle.run_audit_passes.specs.declared.limit_table.LimitTable.{LimitTable}
 use Rattle.run_audit_passes.proofs.TableLemmas.{are_own, seat_taken, seat_there}
 use Rattle.run_audit_passes.proofs.limit_table.take.Goals as goal
@@ -19,7 +19,7 @@ returns c = λ test is limits table.
     } in
     let place = c.args.place in
     let own = c.index-as_slice-place.result in
-    let new = seat_of c.args.new.now in
+    let new = told_seat c.args.new.now in
     let now = seats_now p before.told in
     let read : slice_get p.plan.tests place ≡ Some own =
     subst (λ tests. slice_get tests place ≡ Some own) c.as_slice.ensures
@@ -27,7 +27,7 @@ returns c = λ test is limits table.
     c.requires c.index-as_slice-place.is) in
     let there = seat_there (get nat_cmp before.told) place p.plan.tests own read
     ∙ ap (λ seat. Some (own, seat)) (sym c.in_ok-old.ensures) in
-    let owns = are_own now place (own, seat_of c.in_ok-old.old) table.kept there in
+    let owns = are_own now place (own, told_seat c.in_ok-old.old) table.kept there in
     subst (λ t. TakesSeat p before after place (t, new) c.both.result) (same_Some own test (sym read ∙ is))
     (seat_taken p before after place (own, new) c.in_ok-all.all c.in_ok-groups.groups c.both.result table read
     (c.in_ok-all.ensures now.seats place table.all owns.0)

@@ -1,7 +1,7 @@
 use Rattle.std.proofs.Common.{◌∙◌, ◌&&◌, nat_le, sym, ap, ap₂, arith}
 use Rattle.std.specs.BTreeSet.{contains}
 use Rattle.std.specs.Ordering.{nat_cmp}
-use Rattle.run_audit_passes.specs.LimitTable.{held_after, is_free_beside, seat_of}
+use Rattle.run_audit_passes.specs.LimitTable.{held_after, is_free_beside, told_seat}
 use Rattle.run_audit_passes.specs.declared.taken.AllTaken.{AllTaken}
 use Rattle.run_audit_passes.proofs.TakenLemmas.{all_changed}
 use Rattle.run_audit_passes.proofs.taken.change_all.Goals as goal
@@ -15,7 +15,7 @@ returns-then-free c =
     let right = c.weight_of-2.ensures in
     let held = contains nat_cmp c.args.all.now.slots in
     let after : AllTaken = record { sum = c.in_ok-sum.sum; slots = c.hold.new.held } in
-    all_changed threads c.args.all.now after (test, seat_of c.args.old.now) (test, seat_of c.args.new.now)
+    all_changed threads c.args.all.now after (test, told_seat c.args.old.now) (test, told_seat c.args.new.now)
     c.in_ok-free.free (nat_le c.in_ok-sum.sum threads) (omega (arith, sum, left, right))
     (c.in_ok-free.ensures.free ∙ ap₂ (is_free_beside nat_cmp held) (c.slot_of.ensures test) (c.slot_of-2.ensures test))
     (λ k. c.in_ok-free.ensures.held k
@@ -31,7 +31,7 @@ returns-else-free c =
     let right = c.weight_of-2.ensures in
     let held = contains nat_cmp c.args.all.now.slots in
     let after : AllTaken = record { sum = c.in_ok-sum.sum; slots = c.hold.new.held } in
-    all_changed threads c.args.all.now after (test, seat_of c.args.old.now) (test, seat_of c.args.new.now)
+    all_changed threads c.args.all.now after (test, told_seat c.args.old.now) (test, told_seat c.args.new.now)
     c.in_ok-free.free c.in_ok-free.free (omega (arith, sum, left, right))
     (c.in_ok-free.ensures.free ∙ ap₂ (is_free_beside nat_cmp held) (c.slot_of.ensures test) (c.slot_of-2.ensures test))
     (λ k. c.in_ok-free.ensures.held k

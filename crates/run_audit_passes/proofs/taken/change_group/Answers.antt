@@ -1,6 +1,6 @@
-use Rattle.std.proofs.Common.{◌≡◌, ◌∙◌, ◌+◌, ◌&&◌, nat_le, sym, ap, arith}
+use Rattle.std.proofs.Common.{◌∙◌, ◌&&◌, nat_le, sym, ap, arith}
 use Rattle.run_audit_machines.specs.Limits.{seat_weight}
-use Rattle.run_audit_passes.specs.LimitTable.{seat_of}
+use Rattle.run_audit_passes.specs.LimitTable.{told_seat}
 use Rattle.run_audit_passes.specs.declared.taken.GroupsTaken.{GroupsTaken}
 use Rattle.run_audit_passes.proofs.TakenLemmas.{group_changed}
 use Rattle.run_audit_passes.proofs.taken.change_group.Goals as goal
@@ -8,8 +8,8 @@ use Rattle.run_audit_passes.proofs.taken.change_group.Goals as goal
 pub returns-then-free : goal.returns-then-free
 returns-then-free c = λ all group seats place named first limit takes own.
     let test = c.args.test.now in
-    let old = seat_of c.args.old.now in
-    let new = seat_of c.args.new.now in
+    let old = told_seat c.args.old.now in
+    let new = told_seat c.args.new.now in
     let sum = c.in_ok-sum.ensures.sum in
     let left = c.weight_of-before.ensures ∙ sym (ap (λ l. seat_weight l (test, old)) limit) in
     let right = c.weight_of-after.ensures ∙ sym (ap (λ l. seat_weight l (test, new)) limit) in
@@ -23,8 +23,8 @@ returns-then-free c = λ all group seats place named first limit takes own.
 pub returns-else-free : goal.returns-else-free
 returns-else-free c = λ all group seats place named first limit takes own.
     let test = c.args.test.now in
-    let old = seat_of c.args.old.now in
-    let new = seat_of c.args.new.now in
+    let old = told_seat c.args.old.now in
+    let new = told_seat c.args.new.now in
     let sum = c.in_ok-sum.ensures.sum in
     let left = c.weight_of-before.ensures ∙ sym (ap (λ l. seat_weight l (test, old)) limit) in
     let right = c.weight_of-after.ensures ∙ sym (ap (λ l. seat_weight l (test, new)) limit) in

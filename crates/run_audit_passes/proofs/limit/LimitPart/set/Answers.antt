@@ -1,8 +1,7 @@
-use Rattle.std.specs.Prelude.{slice_get}
-use Rattle.std.proofs.Common.{◌≡◌, ◌<◌, ◌∙◌, length, sym, ap, subst}
+use Rattle.std.proofs.Common.{◌<◌, ◌∙◌, length, sym, ap, subst}
 use Rattle.std.specs.BTreeMap.{get}
 use Rattle.std.specs.Ordering.{nat_cmp}
-use Rattle.run_audit_passes.specs.LimitTable.{seat_of}
+use Rattle.run_audit_passes.specs.LimitTable.{told_seat}
 use Rattle.run_audit_passes.proofs.TableLemmas.{seats_changed, seats_long, table_whole}
 use Rattle.run_audit_passes.proofs.limit.LimitPart.set.Goals as goal
 
@@ -17,7 +16,7 @@ invariant_of-self-2 c = record {
   placed = c.self.invariant.placed;
   limited = c.self.invariant.limited;
   whole = table_whole c.self.inside.settings.now c.self.inside.table c.change.new.table c.args.place
-      (seat_of c.args.new) c.in_ok-kept.kept
+      (told_seat c.args.new) c.in_ok-kept.kept
       (subst (λ n. c.args.place < n)
       (sym (ap (λ now. length now.seats) c.self.view_is)
       ∙ seats_long (get nat_cmp c.self.inside.table.told) 0 c.self.inside.settings.now.plan.tests) c.requires)
@@ -26,5 +25,5 @@ invariant_of-self-2 c = record {
 
 pub returns : goal.returns
 returns c = seats_changed c.self.inside.settings.now c.self.inside.table c.change.new.table c.args.place
-    (seat_of c.args.new) c.in_ok-kept.kept c.args.self.now c.self.view_is
+    (told_seat c.args.new) c.in_ok-kept.kept c.args.self.now c.self.view_is
     (λ test is. c.in_ok-kept.ensures test is c.self.invariant.limited (c.self.invariant.whole c.if-broken.false))
