@@ -23,6 +23,7 @@ use Rattle.run_commands.specs.declared.errors.SetupScriptOutputError.{SetupScrip
 use Rattle.run_commands.specs.declared.errors.SetupScriptOutputError.TheVariants.{EnvFileRead, EnvFileParse}
 use Rattle.run_commands.specs.declared.errors.SetupScriptOutputError.TheVariants.{EnvFileInvalidKey, EnvFileTooLong}
 use Rattle.run_commands.specs.declared.errors.SetupScriptOutputError.TheVariants.{EnvFileOpen, OutOfMemory}
+use Rattle.run_events.specs.declared.result.ChildExecutionOutput.{ChildExecutionOutput}
 use Rattle.run_events.specs.declared.result.ChildExecutionOutput.TheVariants.{Output, StartError}
 use Rattle.run_events.specs.declared.result.ExecuteStatus.{ExecuteStatus}
 use Rattle.run_events.specs.declared.result.ExecutionResult.{ExecutionResult}
