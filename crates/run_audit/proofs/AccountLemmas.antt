@@ -1,11 +1,11 @@
 -- What is due of each test, event by event, is what it is told in each part.
-use Rattle.std.proofs.Common.{◌≡◌, ◌∙◌, ◌+◌, ℕ, zero, suc, List, [], ◌∷◌, ◌++◌, map, set, length, filter_map, reverse}
+use Rattle.std.proofs.Common.{◌≡◌, ◌∙◌, ◌+◌, ℕ, zero, suc, List, [], ◌∷◌, ◌++◌, map, set, length, filter_map}
 use Rattle.std.proofs.Common.{Bool, true, false, if◌then◌else◌, Option, Some, None, option_map, option_to_list, is_some}
-use Rattle.std.proofs.Common.{Bor, option_copied, slice_get, refl, sym, ap, ap₂, subst, true≢false, arith, add-zero}
+use Rattle.std.proofs.Common.{Bor, option_copied, slice_get, refl, sym, ap, ap₂, true≢false, arith, add-zero}
 use Rattle.std.proofs.Common.{append_assoc}
 use Rattle.std.specs.List.{All, cons_option, list_any}
 use Rattle.std.proofs.lemmas.Bool.{or_parts}
-use Rattle.std.proofs.lemmas.List.{append-nil, length-set, map-append}
+use Rattle.std.proofs.lemmas.List.{append-nil, map-append}
 use Rattle.std.proofs.lemmas.List.Elements.{All-head, All-push, All-tail, filter_map-append}
 use Rattle.std.proofs.lemmas.Option.{same_Some}
 use Rattle.run_events.specs.declared.events.ReporterEvent.{ReporterEvent}
@@ -88,10 +88,6 @@ pub added_with : {Q : Type 0} (items : Q → List (DueTest Known)) (e : Reporter
 added_with items e t y ids queues after place is known only adds =
     ap (accounts_known items ids) adds.4
     ∙ own_with items e t y ids queues place adds.0 adds.1 is known only adds.2 adds.3
-
-pub added_many : {Q Y : Type 0} (items : Q → List Y) (queues after : List Q) (place : ℕ) (y : Y)
-    → AddsAt items queues place y after → length after ≡ length queues
-added_many items queues after place y adds = ap length adds.4 ∙ length-set queues place adds.1
 
 -- queues of which nothing is due
 pub none_known : {Q : Type 0} (items : Q → List (DueTest Known)) (ids : List TestInstanceId) (queues : List Q)
@@ -212,9 +208,8 @@ pub nothing_told : (r : Option (Bor TestInstanceId)) (o : Option (TestInstanceId
 nothing_told r None is none = refl
 nothing_told r (Some t) is none = absurd (true≢false (ap is_some (sym is ∙ ap option_copied none)))
 
-pub something_told : (r : Option (Bor TestInstanceId)) (o : Option (TestInstanceId × TestNews)) (id : Bor
-    TestInstanceId)
-    → option_copied r ≡ option_map (λ t. t.0) o → r ≡ Some id
+pub something_told : (r : Option (Bor TestInstanceId)) (o : Option (TestInstanceId × TestNews))
+    (id : Bor TestInstanceId) → option_copied r ≡ option_map (λ t. t.0) o → r ≡ Some id
     → (t : TestInstanceId × TestNews) × (o ≡ Some t) × (t.0 ≡ id.now)
 something_told r None id is some = absurd (true≢false (ap is_some (sym (ap option_copied some) ∙ is)))
 something_told r (Some t) id is some = (t, refl, same_Some t.0 id.now (sym is ∙ ap option_copied some))
@@ -223,7 +218,3 @@ something_told r (Some t) id is some = (t, refl, same_Some t.0 id.now (sym is �
 pub news_known : (o : Option (TestInstanceId × TestNews)) (t : TestInstanceId × TestNews) (y : DueTest Known)
     → o ≡ Some t → option_map test_known (Some y) ≡ option_map (λ told. told.1) o → test_known y ≡ t.1
 news_known o t y is known = same_Some (test_known y) t.1 (known ∙ ap (option_map (λ told. told.1)) is)
-
-pub never_none : (o : Option (TestInstanceId × TestNews)) (t : TestInstanceId × TestNews) → o ≡ Some t
-    → option_map test_known None ≡ option_map (λ told. told.1) o → ⊥
-never_none o t is known = true≢false (ap is_some (sym (known ∙ ap (option_map (λ told. told.1)) is)))

@@ -1,5 +1,5 @@
 -- What is due of the cancels of each part, event by event.
-use Rattle.std.proofs.Common.{◌≡◌, ◌∙◌, List, [], ◌∷◌, ◌++◌, map, Bool, true, false, if◌then◌else◌, Option, Some, None}
+use Rattle.std.proofs.Common.{◌≡◌, ◌∙◌, List, [], ◌∷◌, ◌++◌, map, Bool, true, false, if◌then◌else◌, None}
 use Rattle.std.proofs.Common.{option_to_list, sym, ap, append_assoc}
 use Rattle.std.proofs.lemmas.List.{append-nil}
 use Rattle.run_events.specs.declared.events.ReporterEvent.{ReporterEvent}

@@ -17,7 +17,7 @@ use Rattle.run_audit_model.specs.Parts.{is_stress}
 use Rattle.run_audit_model.specs.SeenScripts.{ScriptNews}
 use Rattle.run_audit_model.specs.SeenTests.{TestNews, seen_test}
 use Rattle.run_audit_model.specs.declared.audit_event.AuditEvent.{AuditEvent}
-use Rattle.run_audit_machines.specs.Accounts.{AreApart, CanTellEach, accounts_seen}
+use Rattle.run_audit_machines.specs.Accounts.{CanTellEach, accounts_seen}
 use Rattle.run_audit_machines.specs.Machines.{HoldsInParts, InParts, IsPlaceOf, first_state, one_each}
 use Rattle.run_audit_machines.specs.Scripts.{CanTellScripts, ScriptPart, before_scripts, due_scripts}
 use Rattle.run_audit_machines.specs.Tests.{CanTellTests, TestPart, accounts_of}
@@ -27,7 +27,7 @@ use Rattle.run_laws.proofs.told.FateLemmas.{over_ended}
 use Rattle.run_laws_audit.specs.Due.{script_news, test_news}
 use Rattle.run_laws_audit.specs.Plain.{HasPlainStatus}
 use Rattle.run_laws_audit.specs.Split.{news_by_part}
-use Rattle.run_audit.specs.Needs.{AreNeedsOf, HasTestPlaces, HasToldAll}
+use Rattle.run_audit.specs.Needs.{HasTestPlaces, HasToldAll}
 use Rattle.run_audit.specs.Stops.{StopsByLaw}
 use Rattle.run_audit.specs.Told.{Known, accounts_by_part, accounts_told, no_accounts, script_known, script_part_known}
 use Rattle.run_audit.specs.Told.{test_known}

@@ -1,9 +1,8 @@
 -- What is due of the setup scripts and of each test in each sub-run was told in its part.
-use Rattle.std.proofs.Common.{get_or, ◌≡◌, ◌∙◌, ℕ, List, [], ◌∷◌, map, reverse, filter_map, Option, Some, None}
+use Rattle.std.proofs.Common.{get_or, ◌≡◌, ◌∙◌, ℕ, List, [], ◌∷◌, map, reverse, filter_map, Some, None}
 use Rattle.std.proofs.Common.{slice_get}
 use Rattle.std.proofs.Common.{arith}
 use Rattle.std.proofs.Common.{refl, ap}
-use Rattle.std.specs.List.{All}
 use Rattle.run_events.specs.declared.events.ReporterEvent.{ReporterEvent}
 use Rattle.run_events.specs.declared.events.ReporterEvent.TheVariants.{Tick, Test}
 use Rattle.run_events.specs.declared.events.TestEventKind.{TestEventKind}

@@ -1,7 +1,7 @@
 -- Where events stop keeping a law, by what was told of each part.
-use Rattle.std.proofs.Common.{◌≡◌, ◌∙◌, ℕ, zero, suc, List, [], ◌∷◌, map, length, reverse, filter_map}
+use Rattle.std.proofs.Common.{◌≡◌, ◌∙◌, ℕ, List, [], ◌∷◌, map, length, reverse, filter_map}
 use Rattle.std.proofs.Common.{Bool, true, false}
-use Rattle.std.proofs.Common.{Option, Some, None, is_some, refl, sym, ap, subst, true≢false}
+use Rattle.std.proofs.Common.{Option, Some, None, is_some, refl, sym, ap, true≢false}
 use Rattle.std.proofs.Common.{arith, ◌<◌}
 use Rattle.std.specs.List.{All}
 use Rattle.std.proofs.lemmas.List.{length-map, length-reverse}
@@ -17,8 +17,8 @@ use Rattle.run_model.specs.declared.happening.Happening.{Happening}
 use Rattle.run_model.specs.Journal.{past_of}
 use Rattle.run_model.specs.Words.{ended_runs, told}
 use Rattle.run_audit_model.specs.Kept.{KeepsLaw}
-use Rattle.run_audit_model.specs.Parts.{first_part, is_stress, parts_from}
-use Rattle.run_audit_model.specs.Seen.{as_audited, audited_kind, cancel_seen}
+use Rattle.run_audit_model.specs.Parts.{is_stress}
+use Rattle.run_audit_model.specs.Seen.{audited_kind, cancel_seen}
 use Rattle.run_audit_model.specs.declared.audit_event.AuditEvent.{AuditEvent}
 use Rattle.run_audit_machines.specs.Cancels.{CancelPart, cancel_parts, cancels_of, due_cancels}
 use Rattle.run_audit_machines.specs.Machines.{InParts, IsPlaceOf, first_state, one_each}

@@ -1,5 +1,5 @@
 -- What was told can be told: events say it that stand within a part.
-use Rattle.std.proofs.Common.{◌≡◌, ◌∙◌, ℕ, List, [], ◌∷◌, ◌++◌, map, filter_map, Bool, true, false, if◌then◌else◌, refl}
+use Rattle.std.proofs.Common.{◌≡◌, ◌∙◌, List, [], ◌∷◌, ◌++◌, map, filter_map, Bool, true, false, if◌then◌else◌, refl}
 use Rattle.std.proofs.Common.{get_or, Option, Some, None, option_to_list, is_some, sym, ap, subst, IfSome, true≢false}
 use Rattle.std.specs.List.{All}
 use Rattle.std.proofs.lemmas.List.{append-nil}
@@ -19,7 +19,7 @@ use Rattle.run_audit_model.specs.declared.audit_event.AuditEvent.{AuditEvent}
 use Rattle.run_audit_model.specs.declared.audit_event.AuditEvent.TheVariants as seen
 use Rattle.run_audit_machines.specs.Accounts.{AreApart, CanTellEach, IsTellableOf, names_in}
 use Rattle.run_audit_machines.specs.Machines.{HoldsInParts, InParts, IsTellable, StaysWithin, first_state, one_each}
-use Rattle.run_audit_machines.specs.Scripts.{before_scripts, may_begin}
+use Rattle.run_audit_machines.specs.Scripts.{may_begin}
 use Rattle.run_laws_audit.specs.Due.{script_news, script_news_in, test_news, test_news_in}
 use Rattle.run_laws_audit.specs.Plain.{HasPlainStatus, HasPlainStatusIn}
 use Rattle.run_laws_audit.specs.Split.{news_by_part}
@@ -27,7 +27,7 @@ use Rattle.run_laws_audit.proofs.IdLemmas.{id_is}
 use Rattle.run_laws_audit.proofs.KeptLemmas.{kept_all}
 use Rattle.run_laws_audit.proofs.ShapeLemmas.{inner_open}
 use Rattle.run_laws_audit.proofs.StatusLemmas.{script_read, status_read, statuses_read}
-use Rattle.run_audit.specs.Told.{accounts_told, no_accounts}
+use Rattle.run_audit.specs.Told.{accounts_told}
 
 -- what holds of each news holds part by part
 pub all_by_part : {Y : Type 0} (stress : Bool) (news : ReporterEvent → Option Y) (Holds : Y → Type 0) (so_far : List Y)

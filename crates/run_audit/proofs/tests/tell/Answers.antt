@@ -6,7 +6,7 @@ use Rattle.run_audit_machines.specs.Accounts.{IsOnlyAt}
 use Rattle.run_audit_machines.proofs.AccountPlaceLemmas.{only_within}
 use Rattle.run_laws_audit.specs.Due.{test_news}
 use Rattle.run_audit.specs.Told.{accounts_known, test_known}
-use Rattle.run_audit.proofs.AccountLemmas.{added_many, added_with, never_none, news_known, nothing_told, others_with}
+use Rattle.run_audit.proofs.AccountLemmas.{added_with, news_known, nothing_told, others_with}
 use Rattle.run_audit.proofs.AccountLemmas.{silent, something_told}
 use Rattle.run_audit.proofs.tests.tell.Goals as goal
 

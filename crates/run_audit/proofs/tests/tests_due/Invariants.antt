@@ -1,4 +1,4 @@
-use Rattle.std.proofs.Common.{◌≡◌, [], drop, length}
+use Rattle.std.proofs.Common.{◌≡◌, drop, length}
 use Rattle.run_audit.specs.Told.{accounts_all, accounts_by_part, no_accounts}
 use Rattle.run_audit.proofs.tests.tests_due.Given as goal
 

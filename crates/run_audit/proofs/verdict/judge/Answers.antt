@@ -1,4 +1,4 @@
-use Rattle.std.proofs.Common.{subst, sym}
+use Rattle.std.proofs.Common.{subst}
 use Rattle.run_audit.specs.Stops.{StopsByLaw}
 use Rattle.run_audit.proofs.JudgeLemmas.{all_kept, fifth_no, fourth_no, third_no}
 use Rattle.run_audit.proofs.verdict.judge.Goals as goal
