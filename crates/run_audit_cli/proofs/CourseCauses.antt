@@ -1,5 +1,5 @@
 -- Each course of turns, and each verdict on events, gives its status.
-use Rattle.std.proofs.Common.{◌≡◌, ◌∙◌, ℕ, ◌<◌, ◌≤◌, ◌⊎◌, inl, inr, List, Bool, true, false}
+use Rattle.std.proofs.Common.{◌≡◌, ◌∙◌, ℕ, ◌<◌, ◌≤◌, ◌⊎◌, inl, inr, List, map, Bool, true, false}
 use Rattle.std.proofs.Common.{refl, sym, ap, subst, arith}
 use Rattle.run_events.specs.declared.outcome.RunOutcome.{RunOutcome}
 use Rattle.run_events.specs.declared.settings.Settings.{Settings}
@@ -7,11 +7,12 @@ use Rattle.run_events.specs.declared.turn.Turn.{Turn}
 use Rattle.run_model.specs.declared.entry.Entry.{Entry}
 use Rattle.run_model.specs.declared.happening.Happening.{Happening}
 use Rattle.run_model.specs.Journal.{past_of}
-use Rattle.run_model.specs.Words.{is_over}
+use Rattle.run_model.specs.Words.{is_over, told}
 use Rattle.run_laws.specs.Course.{Ends, GoesOn, HasOneCourse, Stops, refuses_none}
 use Rattle.run_laws.proofs.board.Courses.{one_course}
 use Rattle.run_engine.proofs.OutcomeLemmas.{has_outcome}
 use Rattle.run_audit_model.specs.Kept.{KeepsRun}
+use Rattle.run_audit_model.specs.Seen.{as_audited}
 use Rattle.run_audit_model.specs.declared.audit_event.AuditEvent.{AuditEvent}
 use Rattle.run_audit_model.specs.declared.audit_event.Verdict.{Verdict}
 use Rattle.run_audit_model.specs.declared.audit_event.Verdict.TheVariants.{Yes, No}
@@ -44,6 +45,8 @@ stop_gets p ts es w status place third stops gets =
           let end = over_ends p ts past over in absurd (one.stop_or_end place third end.0 stops end.1);
       broken = λ past over breaks quiet.
           let end = over_ends p ts past over in absurd (one.stop_or_end place third end.0 stops end.1);
+      own = λ past over told_so quiet.
+          let end = over_ends p ts past over in absurd (one.stop_or_end place third end.0 stops end.1);
       unreported = λ o ends rose. absurd (one.stop_or_end place third o stops ends);
     }
 
@@ -58,6 +61,8 @@ going_gets p ts es w status going gets =
           let end = over_ends p ts past over in absurd (one.unfinished_or_end end.0 going end.1);
       broken = λ past over breaks quiet.
           let end = over_ends p ts past over in absurd (one.unfinished_or_end end.0 going end.1);
+      own = λ past over told_so quiet.
+          let end = over_ends p ts past over in absurd (one.unfinished_or_end end.0 going end.1);
       unreported = λ o ends rose. absurd (one.unfinished_or_end o going ends);
     }
 
@@ -69,6 +74,7 @@ eleven_gets p ts es w status is = record {
   unfinished = λ going. inr is;
   kept = λ past over keeps quiet. inr is;
   broken = λ past over breaks quiet. inr is;
+  own = λ past over told_so quiet. inr is;
   unreported = λ o ends rose. inr is;
 }
 
@@ -107,6 +113,9 @@ said_gets p ts es w verdict status x is calm =
       broken = λ past over breaks quiet.
           broken_gets p ts es verdict status x
           (λ keeps. breaks (subst (λ h. KeepsRun p h es) (sym (same_past p ts es verdict past x over)) keeps)) is;
+      own = λ past over told_so quiet.
+          let same = same_past p ts es verdict past x over in
+          inl (is ∙ ap audit_status (x.own (told_so ∙ ap (λ h. map as_audited (told h)) same)));
       unreported = λ o ends rose. absurd (omega (arith, rose, calm));
     }
 
@@ -121,5 +130,6 @@ unsaid_gets p ts es w verdict status x is rose =
       unfinished = λ going. absurd (one.unfinished_or_end end.0 going end.1);
       kept = λ past over keeps quiet. absurd (quiet rose);
       broken = λ past over breaks quiet. absurd (quiet rose);
+      own = λ past over told_so quiet. absurd (quiet rose);
       unreported = λ o ends more. inl is;
     }

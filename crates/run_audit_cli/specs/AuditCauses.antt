@@ -1,5 +1,5 @@
 -- What status each cause gives, where the source's bytes are told and its count of faults didn't rise.
-use Rattle.std.specs.Prelude.{ℕ, ◌≡◌, ◌⊎◌, ◌≤◌, ◌<◌, List, [], ◌∷◌, length, Option, Some, None, Bool, true}
+use Rattle.std.specs.Prelude.{ℕ, ◌≡◌, ◌⊎◌, ◌≤◌, ◌<◌, List, [], ◌∷◌, length, map, Option, Some, None, Bool, true}
 use Rattle.std.specs.List.{Contains}
 use Rattle.run_events.specs.declared.plan.Plan.{Plan}
 use Rattle.run_events.specs.declared.settings.Settings.{Settings}
@@ -8,12 +8,13 @@ use Rattle.run_events.specs.declared.outcome.RunOutcome.{RunOutcome}
 use Rattle.run_model.specs.declared.entry.Entry.{Entry}
 use Rattle.run_model.specs.declared.happening.Happening.{Happening}
 use Rattle.run_model.specs.Journal.{past_of}
-use Rattle.run_model.specs.Words.{is_over}
+use Rattle.run_model.specs.Words.{is_over, told}
 use Rattle.run_laws.specs.Course.{Ends, GoesOn, IsJournalOf, Stops, refuses_none}
 use Rattle.run_engine.specs.declared.errors.TestRunnerBuildError.{TestRunnerBuildError}
 use Rattle.run_input.specs.Lines.{lines_of}
 use Rattle.run_input.specs.declared.plan_line.RunnerKeys.{RunnerKeys}
 use Rattle.run_audit_model.specs.Kept.{KeepsRun}
+use Rattle.run_audit_model.specs.Seen.{as_audited}
 use Rattle.run_audit_model.specs.declared.audit_event.AuditEvent.{AuditEvent}
 use Rattle.run_cli.specs.Call.{Reading, Writing, HasReadFault, HasWriteFault}
 use Rattle.run_cli.specs.Cause.{Gets, HasTooMuch, stop_status}
@@ -43,7 +44,7 @@ IsOverBy p turns past =
     × (is_over past ≡ true)
 
 -- the status of turns and events: turns that stop, or leave the run unfinished; events that keep the run, or don't,
--- where the verdict could be written; and where it couldn't
+-- where the verdict could be written, and so those that the run itself told; and where it couldn't
 pub record GetsJudged (p : Settings) (turns : List Turn) (events : List AuditEvent) (w : Writing) (status : ℕ)
     : Type 0 where
   pub stops : (place : ℕ) (third : Bool) → Stops p turns refuses_none place third → Gets status (stop_status third)
@@ -52,6 +53,8 @@ pub record GetsJudged (p : Settings) (turns : List Turn) (events : List AuditEve
       → Gets status 0
   pub broken : (past : List Happening) → IsOverBy p turns past → ¬ KeepsRun p past events → ¬ HasWriteFault w
       → Gets status 1
+  pub own : (past : List Happening) → IsOverBy p turns past → events ≡ map as_audited (told past)
+      → ¬ HasWriteFault w → Gets status 0
   pub unreported : (o : RunOutcome) → Ends p turns refuses_none o → w.faults < w.faults_after → Gets status 9
 
 -- the statuses that there are
