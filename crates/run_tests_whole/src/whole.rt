@@ -2,4 +2,5 @@
 // order, and what becomes of the run.
 mod gate;
 mod given;
+mod hearing;
 mod rows;

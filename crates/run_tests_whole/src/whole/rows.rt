@@ -1,8 +1,9 @@
 // Runs of one test under one worker.
 use crate::whole::gate::{CountingHost, CountingKeeper, WaitingOutside};
 use crate::whole::given::{Act, keepers, nothing, runner, signals};
+use crate::whole::hearing::Hearing;
 use run_capture::List;
-use run_events::{ChildExit, ChildSignal, EventLog, RunOutcome, TermSignal};
+use run_events::{ChildExit, ChildSignal, RunOutcome, TermSignal};
 use run_keep::{Heard, MemoryHalter, Sent};
 use run_shared::{OrderFault, check_orders};
 use run_whole::{Around, Whole, whole};
@@ -18,7 +19,7 @@ type Left<C> = Whole<
     crate::whole::gate::Milliseconds<C>,
     WaitingOutside,
     MemoryHalter,
-    EventLog,
+    Hearing,
 >;
 
 // A signal as a letter.
@@ -62,6 +63,11 @@ fn ending<C>(left: &Left<C>) -> &'static str {
     }
 }
 
+// Whether the reporter was told of as many turns as the journal has.
+fn hears_each_turn<C>(left: &Left<C>) -> bool {
+    left.run.report.turns == left.run.journal.len() as u64
+}
+
 // Whether the comparison at the end misses what was handed on, if something was: it is done anew without it.
 fn is_missed<C>(alloc: Global, left: &Left<C>, wanted: &str) -> bool {
     let none = List::new();
@@ -95,11 +101,12 @@ fn holds<X: Abort + Threads + Wait + Sync + Clock + Copy + Send + Drop>(
     let halter = MemoryHalter::new();
     let around = Around { outside, halter };
     let runner = runner(&rt, alloc, act);
-    match whole(&rt, alloc, runner, 1, &mut host, around, EventLog::new()) {
+    match whole(&rt, alloc, runner, 1, &mut host, around, Hearing::new()) {
         Ok(left) => {
             were_told(left.threads.workers.keepers.as_slice(), told, act.refuses)
                 && is_missed(alloc, &left, told)
                 && left.threads.ear.around.halter.halts() == halts
+                && hears_each_turn(&left)
                 && ending(&left) == wanted
         }
         Err(given_up) => wanted == "cut off" && given_up.cut_off.is_some(),
