@@ -61,13 +61,17 @@ pub record SaysTurns (others : List (List ℕ)) (turns : List Turn) (event_lines
     pub marks : turn_or_mark_of mark ≡ Some None
     pub counted : number ≡ length turn_lines + 3
 
+-- they say these turns, then that event lines follow, and those tell these events
+abbrev pub SaysLater : List (List ℕ) → List Turn → List AuditEvent → Type 0
+SaysLater others turns events =
+    (event_lines : List (List ℕ)) × (number : ℕ) × SaysTurns others turns event_lines number
+    × (events_said event_lines ≡ Some events)
+
 -- the first line says a plan, and the others turns and events
 abbrev pub IsAuditInput : List (List ℕ) → RunnerKeys → Plan → List Turn → List AuditEvent → Type 0
 IsAuditInput [] keys plan turns events = ⊥
 IsAuditInput (first ∷ others) keys plan turns events =
-    (plan_line_of first ≡ Some (keys, plan))
-    × ((event_lines : List (List ℕ)) × (number : ℕ) × SaysTurns others turns event_lines number
-    × (events_said event_lines ≡ Some events))
+    (plan_line_of first ≡ Some (keys, plan)) × SaysLater others turns events
 
 -- of the lines after the first, those before the one with this number say turns, and it says neither a turn nor that
 -- event lines follow

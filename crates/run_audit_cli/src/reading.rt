@@ -3,8 +3,8 @@ ghost use Rattle.std.specs.Prelude.{◌≡◌, ◌+◌, ◌<◌, ◌≤◌, ◌^
 ghost use Rattle.run_input.specs.Lines.{lines_of};
 ghost use Rattle.run_input.specs.Refused.{error_at};
 ghost use Rattle.run_input.specs.declared.errors.InputError.TheVariants.{OutOfMemory};
-ghost use Rattle.run_audit_cli.specs.AuditLines.{IsAuditInput, SaysTurns, events_said};
-ghost use Rattle.run_audit_cli.specs.AuditRead.{SaysLater, with_last};
+ghost use Rattle.run_audit_cli.specs.AuditLines.{IsAuditInput, SaysLater, SaysTurns, events_said};
+ghost use Rattle.run_audit_cli.specs.AuditRead.{with_last};
 ghost use Rattle.run_audit_cli.specs.AuditRefused.{IsRefusedAudit, IsRefusedEventPart, IsRefusedLater};
 ghost use Rattle.run_audit_cli.specs.AuditRefused.{IsRefusedTurnPart};
 
