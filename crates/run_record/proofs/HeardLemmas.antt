@@ -1,7 +1,8 @@
 -- Who listens to a recorded run has heard what the run told.
-use Rattle.std.proofs.Common.{◌≡◌, ℕ, List, Option, Some, None, IfSome}
+use Rattle.std.proofs.Common.{ℕ, List, Option, Some, None, IfSome}
 use Rattle.run_events.specs.declared.events.ReporterEvent.{ReporterEvent}
 use Rattle.run_events.specs.declared.settings.Settings.{Settings}
+use Rattle.run_cli.specs.Plans.{settings_for}
 use Rattle.run_whole_cli.specs.Hears.{HasHeardLeft, HasHeardPlan}
 use Rattle.run_whole_cli.specs.declared.left.WholeLeft.{WholeLeft}
 use Rattle.run_whole_cli.specs.declared.left.WholeLeft.TheVariants as lefts
@@ -18,4 +19,4 @@ module _ {B C W T O S : Type 0} (heard : B → List ReporterEvent → Type 0) (p
       → IfSome left (HasHeardPlan (λ (c : C) events. heard (part c) events) report line)
       → IfSome left (HasHeardPlan heard (part report) line)
   part_heard line None h = tt
-  part_heard line (Some left) (plan, h) = (plan, left_heard _ left h)
+  part_heard line (Some left) (plan, h) = (plan, left_heard (settings_for plan.keys plan.plan) left h)

@@ -1,6 +1,6 @@
 -- A record in the making that was given up.
-use Rattle.std.proofs.Common.{◌≡◌, ◌≢◌, ◌∙◌, ℕ, ◌+◌, ◌<◌, List, [], ◌∷◌, ◌++◌, length, take, get_or, Option, Some, None}
-use Rattle.std.proofs.Common.{Bool, true, false, Result, Ok, Err, refl, sym, ap, subst, arith, inr, append_assoc}
+use Rattle.std.proofs.Common.{◌≡◌, ℕ, List, [], ◌∷◌, ◌++◌, length, take, Option, Some, None}
+use Rattle.std.proofs.Common.{Bool, true, Ok, refl, sym, subst, arith, inr, append_assoc}
 use Rattle.std.proofs.Common.{length-append}
 use Rattle.std.proofs.lemmas.List.{append-nil}
 use Rattle.std.proofs.Math.Seq.{take-append_seam, get_or-append_seam}
@@ -9,13 +9,13 @@ use Rattle.run_capture.specs.Faults.{RoseExactlyIf}
 use Rattle.run_events.specs.declared.turn.Turn.{Turn}
 use Rattle.run_store.specs.Stores.{front, store_text}
 use Rattle.run_store_io.specs.Taken.{TakesPart, TakesUpTo, turns_tried, HasRoom, is_turn_error, is_write_error}
-use Rattle.run_store_io.specs.Written.{IsOpen, IsShut, IsStoreError, sink_of}
+use Rattle.run_store_io.specs.Written.{IsOpen, IsShut, IsStoreError}
 use Rattle.run_store_io.specs.declared.error.StoreError.{StoreError}
 use Rattle.run_store_io.specs.declared.error.StoreError.TheVariants as errors
 use Rattle.run_store_io.specs.declared.writer.StoreWriter.{StoreWriter}
 use Rattle.run_store_io.proofs.StoreLemmas.{front_part, refused_at}
 use Rattle.run_record.specs.Recorded.{IsRunRecord}
-use Rattle.run_record.specs.Kept.{IsGivenUp, IsUnderway, outcome_for, writing_since}
+use Rattle.run_record.specs.Kept.{IsUnderway, outcome_for, writing_since}
 use Rattle.run_record.specs.declared.outcome.RecordOutcome.{RecordOutcome}
 use Rattle.run_record.specs.declared.outcome.RecordOutcome.TheVariants.{NoMemory}
 use Rattle.run_record.proofs.RecordLemmas.{shut_record}

@@ -1,4 +1,4 @@
-use Rattle.std.proofs.Common.{◌≡◌, ◌∙◌, ap, refl, sym, arith, length}
+use Rattle.std.proofs.Common.{◌∙◌, ap, refl, sym, arith}
 use Rattle.run_laws.specs.Course.{turns_of}
 use Rattle.run_model.specs.declared.entry.Entry.{Entry}
 use Rattle.run_record.proofs.TurnLemmas.{first_of, many, same_after, turn_there}

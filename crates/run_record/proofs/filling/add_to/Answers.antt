@@ -1,4 +1,4 @@
-use Rattle.std.proofs.Common.{Option, None, Ok, subst}
+use Rattle.std.proofs.Common.{Option, Ok, subst}
 use Rattle.run_record.specs.Kept.{IsUnderway}
 use Rattle.run_record.specs.declared.outcome.RecordOutcome.{RecordOutcome}
 use Rattle.run_record.proofs.filling.add_to.Goals as goal

@@ -1,12 +1,10 @@
-use Rattle.std.proofs.Common.{◌≡◌, Some, None, Ok, Err, true, false, not, refl, subst}
+use Rattle.std.proofs.Common.{◌≡◌, Ok, true, false, not, refl, subst}
 use Rattle.std.specs.Option.{is_some}
-use Rattle.run_events.specs.declared.turn.Turn.{Turn}
 use Rattle.run_laws.specs.Course.{turns_of}
 use Rattle.run_store.specs.Stores.{store_text}
 use Rattle.run_store_io.specs.Taken.{TakesUpTo}
 use Rattle.run_record.specs.Kept.{IsUnderway, writing_since}
 use Rattle.run_record.specs.Recorded.{IsRunRecord}
-use Rattle.run_record.specs.declared.outcome.RecordOutcome.{RecordOutcome}
 use Rattle.run_record.proofs.AgreedLemmas.{negated, of_any, of_first, of_others, of_own}
 use Rattle.run_record.proofs.KeptLemmas.{kept_part}
 use Rattle.run_record.proofs.keeping.Keeping.finish.Goals as goal
