@@ -26,7 +26,6 @@ use std::io::{IsTerminal, Stderr, Stdin, Stdout};
 use std::process::ExitCode;
 use std::sync::Wait;
 use std::thread::Threads;
-use std::time::Clock;
 use words::{Color, Progress, RunWords, run_words_of, show_words_of};
 
 const VERSION: &str = "nextest_run 0.0.0";
@@ -230,31 +229,21 @@ fn end_delivered(
     status
 }
 
-// Runs the plan of standard input as these words ask.
-fn run_asked<X: Threads + Wait + Clock + Sync + Send + Copy + Drop>(
-    threads: &X,
-    rt: HostRuntime,
+// Writes the JUnit file of a run, if one is asked for, says how the run ended, and answers the status.
+fn end_listened(
+    rt: &HostRuntime,
     words: &[String],
-    asked: &RunWords<'_>,
+    name: Option<&str>,
+    listened: Listened<LastLine<StdSink<Stdout>>, RunReport<BarSink<StdSink<Stderr>>>>,
 ) -> u8 {
-    let bar = bar_of(&rt, asked.progress.unwrap_or(Progress::Auto));
-    let junit = junit_of(&rt, asked.junit);
     let Listened {
         mut delivered,
         report,
         junit,
-    } = run_and_deliver(
-        threads,
-        rt,
-        lines_of(rt),
-        report_of(rt, asked),
-        bar,
-        junit,
-        asked.record,
-    );
+    } = listened;
     drop(report.into_sink().into_sink());
-    delivered.ran.status = end_junit(&rt, asked.junit, junit, delivered.ran.status);
-    end_delivered(&rt, words, delivered)
+    delivered.ran.status = end_junit(rt, name, junit, delivered.ran.status);
+    end_delivered(rt, words, delivered)
 }
 
 // Says which word of a command is wrong.
@@ -332,7 +321,13 @@ fn main(rt: HostRuntime) -> ExitCode {
     };
     let words = given(&words);
     let status = match asked_of(words) {
-        Asked::Run(asked) => run_asked(&rt, rt, words.unwrap_or(&[]), &asked),
+        Asked::Run(asked) => {
+            let bar = bar_of(&rt, asked.progress.unwrap_or(Progress::Auto));
+            let report = report_of(rt, &asked);
+            let junit = junit_of(&rt, asked.junit);
+            let listened = run_and_deliver(&rt, rt, lines_of(rt), report, bar, junit, asked.record);
+            end_listened(&rt, words.unwrap_or(&[]), asked.junit, listened)
+        }
         Asked::Show(asked) => show_asked(rt, &asked),
         Asked::WrongRun(word) => refuse_run(&rt, word),
         Asked::WrongShow(word) => refuse_show(&rt, word),
