@@ -1,5 +1,6 @@
-//! The program of reruns: makes the plan of the next run of a chain of stored ones, by the top call of the library
-//! below, over files. It answers `--help` and `--version` itself, and says on standard error what a status means.
+//! The program of reruns: makes the plan of the next run of a chain of stored ones, and says whether stored shards are
+//! the whole of one plan, by the top call of the library below, over files. It answers `--help` and `--version` itself,
+//! and says on standard error what a status means.
 #![tactic(auto)]
 
 use run_cli::{Ran, StdSink};
@@ -11,14 +12,17 @@ const NAME: &str = "nextest_rerun";
 
 const VERSION: &str = "nextest_rerun 0.0.0";
 
-const COMMANDS: [&str; 1] = ["plan"];
+const COMMANDS: [&str; 2] = ["plan", "shards"];
 
 const HELP: &str = "Reruns of outstanding tests
 
 Usage: nextest_rerun plan STORE..
+       nextest_rerun shards STORE..
 
   plan STORE..     reads the stores of a chain of runs, oldest first, and writes the plan line of the next run: it runs
                    the tests that didn't pass in the latest run that has them, and skips the others
+  shards STORE..   reads the stores of runs of parts of one plan, and says whether they are together the whole of it:
+                   each run is over, and each test that no plan skips but as `partition` is in exactly one
   -h, --help       prints this, also after a command
   -V, --version    prints the version
 
@@ -26,8 +30,11 @@ Each STORE is a file as nextest_store record writes it, of at most 33,554,432 by
 far as its turns are there. Where no test is outstanding, {\"outstanding\":0} is written.
 
 Exit status:
-    0   some tests are outstanding, and the plan line was written
-    4   no test is outstanding
+    0   some tests are outstanding, and the plan line was written; the shards are the whole, and all tests passed
+    1   the shards aren't the whole: the line says which one is cut short or of another plan, or which test is in two or
+        in none
+    4   no test is outstanding; the shards are the whole, and have no test
+  100   the shards are the whole, and some test didn't pass
     2   the words are wrong
     9   a write failed
    11   memory was wanting
@@ -45,6 +52,7 @@ docs/FORMATS.md of the repository has the formats of lines and stores.";
 // What a status means, where it is that of a fault.
 fn meaning(status: u8) -> Option<&'static str> {
     match status {
+        1 => Some("the shards are not the whole of one plan"),
         2 => Some("the words are wrong: see nextest_rerun --help"),
         5 => Some("the plan of a store breaks a rule"),
         6 => Some("a turn of a store is not enabled"),

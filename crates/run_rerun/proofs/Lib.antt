@@ -9,3 +9,6 @@ mod PlanMadeLemmas
 mod ValueLemmas
 mod MadeLemmas
 mod LineLemmas
+mod ShardLemmas
+mod ShardLineLemmas
+pub mod OneVerdictLemmas

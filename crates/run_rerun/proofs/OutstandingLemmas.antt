@@ -48,7 +48,7 @@ is_equal Less h = cc
 is_equal Equal h = refl
 is_equal Greater h = cc
 
-same_test : (a b : TestInstanceId) → is_one_test a b ≡ true → a ≡ b
+pub same_test : (a b : TestInstanceId) → is_one_test a b ≡ true → a ≡ b
 same_test a b h = exact_ids a b (is_equal (id_order a b) (one_test a b ∙ h))
 
 -- the order of two tests says the same either way round

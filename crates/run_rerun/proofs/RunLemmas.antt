@@ -1,6 +1,7 @@
 -- What an answer to turns says of the tests.
 use Rattle.std.proofs.Common.{◌≡◌, ◌∙◌, ℕ, ◌≤◌, ◌⊎◌, inl, inr, List, [], ◌∷◌, ◌++◌, map, filter, zip, reverse}
-use Rattle.std.proofs.Common.{take, Bool, true, false, Option, Some, None, is_none, Result, Ok, Err, refl, sym, ap}
+use Rattle.std.proofs.Common.{take, Bool, true, false, if◌then◌else◌, Option, Some, None, is_none, Result, Ok, Err}
+use Rattle.std.proofs.Common.{refl, sym, ap}
 use Rattle.std.proofs.Common.{subst}
 use Rattle.std.proofs.Common.{arith}
 use Rattle.std.specs.declared.convert.Infallible.{Infallible}
@@ -19,7 +20,8 @@ use Rattle.run_model.specs.declared.entry.Entry.{Entry}
 use Rattle.run_model.specs.declared.happening.Happening.{Happening}
 use Rattle.run_model.specs.Journal.{history, past_of, IsLegalBackward, outcome}
 use Rattle.run_model.specs.Turns.{happening}
-use Rattle.run_model.specs.Words.{answers, events_in, is_over, told}
+use Rattle.run_model.specs.SubRuns.{outcome_in}
+use Rattle.run_model.specs.Words.{answers, ended_runs, events_in, is_over, told}
 use Rattle.run_laws.specs.Course.{AreAnswersOf, IsJournalOf, Stops, refuses_none, none_refused, turns_of}
 use Rattle.run_laws.proofs.board.Courses.{unrefused}
 use Rattle.run_engine.proofs.OutcomeLemmas.{has_outcome}
@@ -66,8 +68,8 @@ heard_all : {C : Type 0} (asks : C → List (ℕ × Ask) → Type 0) (o : Outsid
     (turns : List Turn) (answer : Result RunOutcome (TestRunnerExecuteErrors Infallible))
     (x : Carries {E = Infallible} (λ ledger xs. IsLedgerOf ledger (map (λ x. x.0) xs)) asks o p turns answer)
     → o.faults_after ≡ o.faults → ¬ Rose o.faults o.faults → turns_of x.journal ≡ turns → IsLedgerOf o.report []
-    → HasHeard p turns o.report_after
-heard_all asks o p turns answer x same still takes fresh =
+    → (over : Bool) → over ≡ is_over (past_of p x.journal) → HasHeard p turns o.report_after over
+heard_all asks o p turns answer x same still takes fresh over ends =
     let counted : CountsErrors o.faults o.faults x.refusal =
     subst (λ n. CountsErrors o.faults n x.refusal) same x.takes.counted in
     let is : IsJournalOf p turns refuses_none x.journal = record {
@@ -80,7 +82,16 @@ heard_all asks o p turns answer x same still takes fresh =
     let events : map (λ y. y.0) ys ≡ told (past_of p x.journal) =
     sym (firsts-flagged ys) ∙ ap (map (λ x. x.0)) told_it.2
     ∙ answers-told p (reverse x.journal) x.takes.runnable.legal in
-    (x.journal, is, subst (IsLedgerOf o.report_after) events told_it.1)
+    (x.journal, is, subst (IsLedgerOf o.report_after) events told_it.1, ends)
+
+-- a run that has an outcome is over
+over_of : (p : Settings) (past : List Happening) (u : RunOutcome)
+    → (if is_over past then outcome_in p (ended_runs past) else None) ≡ Some u → true ≡ is_over past
+over_of p past u is = by (is_over past) is
+  where
+    by : (b : Bool) → (if b then outcome_in p (ended_runs past) else None) ≡ Some u → true ≡ b
+    by true is = refl
+    by false is = cc
 
 -- a count of faults that stays 0 didn't rise
 no_rise : ¬ Rose 0 0
@@ -118,10 +129,10 @@ pub taken_says : {C : Type 0} (asks : C → List (ℕ × Ask) → Type 0) (befor
     → IsLedgerOf before [] → SaysTaken p turns after (as_rerun answer)
 taken_says asks before after children children_after p turns (Ok u) x fresh =
     heard_all asks (heard_by before after children children_after) p turns (Ok u) x.call refl no_rise x.call.says.0
-    fresh
+    fresh true (over_of p (past_of p x.call.journal) u x.call.says.1)
 taken_says asks before after children children_after p turns (Err engine.Unfinished) x fresh =
     heard_all asks (heard_by before after children children_after) p turns (Err engine.Unfinished) x.call refl no_rise
-    x.call.says.0 fresh
+    x.call.says.0 fresh false (sym x.call.says.1)
 taken_says asks before after children children_after p turns (Err (engine.NotEnabled i)) x fresh = (
   x.call.journal,
   stops_at asks (heard_by before after children children_after) p turns (Err (engine.NotEnabled i))
@@ -161,17 +172,17 @@ taken_gets before after children children_after p turns answer has = record {
     by_stop place third (inr e) = inr (ap as_rerun e)
 
     ended : (u : RunOutcome) → (answer ≡ Ok u) ⊎ (answer ≡ Err engine.OutOfMemory)
-        → (as_rerun answer ≡ Ok tt) ⊎ (as_rerun answer ≡ Err OutOfMemory)
+        → (as_rerun answer ≡ Ok true) ⊎ (as_rerun answer ≡ Err OutOfMemory)
     ended u (inl e) = inl (ap as_rerun e)
     ended u (inr e) = inr (ap as_rerun e)
 
     unfinished : (answer ≡ Err engine.Unfinished) ⊎ (answer ≡ Err engine.OutOfMemory)
-        → (as_rerun answer ≡ Ok tt) ⊎ (as_rerun answer ≡ Err OutOfMemory)
+        → (as_rerun answer ≡ Ok false) ⊎ (as_rerun answer ≡ Err OutOfMemory)
     unfinished (inl e) = inl (ap as_rerun e)
     unfinished (inr e) = inr (ap as_rerun e)
 
     by_end : (journal : List Entry) → IsJournalOf p turns refuses_none journal → (over : Bool)
-        → is_over (past_of p journal) ≡ over → (as_rerun answer ≡ Ok tt) ⊎ (as_rerun answer ≡ Err OutOfMemory)
+        → is_over (past_of p journal) ≡ over → (as_rerun answer ≡ Ok over) ⊎ (as_rerun answer ≡ Err OutOfMemory)
     by_end journal is true over =
         let end : (u : RunOutcome) × (outcome p (past_of p journal) ≡ Some u) = has_outcome p journal is.legal over in
         ended end.0 (course.ended end.0 (journal, is, end.1) no_rise)
@@ -179,10 +190,10 @@ taken_gets before after children children_after p turns answer has = record {
 
 -- the tests of a run whose ledger this is
 pub says_tests : (p : Settings) (turns : List Turn) (ledger : Ledger) (tests : RunTests)
-    (had : List (ℕ × TestInstanceId)) → HasHeard p turns ledger → had ≡ tests_had p.plan
+    (had : List (ℕ × TestInstanceId)) (over : Bool) → HasHeard p turns ledger over → had ≡ tests_had p.plan
     → tests.has ≡ map (λ t. t.1) had → tests.passed ≡ map (λ t. t.1) (filter (λ t. is_marked ledger t.0) had)
-    → AreTestsOf p turns tests
-says_tests p turns ledger tests had heard is has passes =
+    → tests.over ≡ over → AreTestsOf p turns tests
+says_tests p turns ledger tests had over heard is has passes ends =
     let events : List ReporterEvent = told (past_of p heard.0) in
     record {
       journal = heard.0;
@@ -190,19 +201,20 @@ says_tests p turns ledger tests had heard is has passes =
       had = has ∙ ap (map (λ t. t.1)) is;
       passes = passes ∙ ap (map (λ t. t.1)) (marked_ids ledger events heard.2 had)
           ∙ ap (λ ts. map (λ t. t.1) (filter (λ t. is_told_passed events t.0) ts)) is;
+      ends = ends ∙ heard.3;
     }
 
 -- what a run that was taken is answered, and one that wasn't
-pub gets_ok : (p : Settings) (turns : List Turn) (tests : RunTests) → GetsTaken p turns (Ok tt)
+pub gets_ok : (p : Settings) (turns : List Turn) (tests : RunTests) (over : Bool) → GetsTaken p turns (Ok over)
     → GetsTests p turns (Ok tests)
-gets_ok p turns tests gets = record {
+gets_ok p turns tests over gets = record {
   stopped = λ place third stops. by place third (gets.stopped place third stops);
   taken = λ journal is. inl (tests, refl);
 }
   where
     by : (place : ℕ) (third : Bool)
-        → ◌≡◌ {A = Result (Unit {0}) RerunError} (Ok tt) (Err (stop_error place third))
-        ⊎ ◌≡◌ {A = Result (Unit {0}) RerunError} (Ok tt) (Err OutOfMemory)
+        → ◌≡◌ {A = Result Bool RerunError} (Ok over) (Err (stop_error place third))
+        ⊎ ◌≡◌ {A = Result Bool RerunError} (Ok over) (Err OutOfMemory)
         → (Ok tests ≡ Err (stop_error place third)) ⊎ (Ok tests ≡ Err OutOfMemory)
     by place third (inl e) = cc
     by place third (inr e) = cc
@@ -214,23 +226,23 @@ pub gets_err : (p : Settings) (turns : List Turn) (error : RerunError) → GetsT
     → GetsTests p turns (Err error)
 gets_err p turns error gets = record {
   stopped = λ place third stops. by place third (gets.stopped place third stops);
-  taken = λ journal is. ended (gets.taken journal is);
+  taken = λ journal is. ended (is_over (past_of p journal)) (gets.taken journal is);
 }
   where
     by : (place : ℕ) (third : Bool)
-        → ◌≡◌ {A = Result (Unit {0}) RerunError} (Err error) (Err (stop_error place third))
-        ⊎ ◌≡◌ {A = Result (Unit {0}) RerunError} (Err error) (Err OutOfMemory)
+        → ◌≡◌ {A = Result Bool RerunError} (Err error) (Err (stop_error place third))
+        ⊎ ◌≡◌ {A = Result Bool RerunError} (Err error) (Err OutOfMemory)
         → ◌≡◌ {A = Result RunTests RerunError} (Err error) (Err (stop_error place third))
         ⊎ ◌≡◌ {A = Result RunTests RerunError} (Err error) (Err OutOfMemory)
     by place third (inl e) = let same : error ≡ stop_error place third = cc in inl (ap Err same)
     by place third (inr e) = let same : error ≡ OutOfMemory = cc in inr (ap Err same)
 
-    ended : ◌≡◌ {A = Result (Unit {0}) RerunError} (Err error) (Ok tt)
-        ⊎ ◌≡◌ {A = Result (Unit {0}) RerunError} (Err error) (Err OutOfMemory)
+    ended : (over : Bool) → ◌≡◌ {A = Result Bool RerunError} (Err error) (Ok over)
+        ⊎ ◌≡◌ {A = Result Bool RerunError} (Err error) (Err OutOfMemory)
         → ((tests : RunTests) × ◌≡◌ {A = Result RunTests RerunError} (Err error) (Ok tests))
         ⊎ ◌≡◌ {A = Result RunTests RerunError} (Err error) (Err OutOfMemory)
-    ended (inl e) = cc
-    ended (inr e) = let same : error ≡ OutOfMemory = cc in inr (ap Err same)
+    ended over (inl e) = cc
+    ended over (inr e) = let same : error ≡ OutOfMemory = cc in inr (ap Err same)
 
 -- what is said of the turns of a plan that is built
 pub says_stored : (keys : RunnerKeys) (plan : Plan) (turns : List Turn) (runner : Settings)

@@ -6,7 +6,7 @@ use Rattle.run_events.specs.declared.turn.Turn.{Turn}
 use Rattle.run_input.specs.declared.plan_line.RunnerKeys.{RunnerKeys}
 use Rattle.run_model.specs.declared.entry.Entry.{Entry}
 use Rattle.run_model.specs.Journal.{past_of}
-use Rattle.run_model.specs.Words.{told}
+use Rattle.run_model.specs.Words.{is_over, told}
 use Rattle.run_laws.specs.Course.{IsJournalOf, Stops, refuses_none}
 use Rattle.run_cli.specs.Plans.{plan_refusal, settings_for}
 use Rattle.run_rerun.specs.declared.answers.RunTests.{RunTests}
@@ -16,12 +16,13 @@ use Rattle.run_rerun.specs.declared.answers.RerunError.TheVariants.{OutOfMemory}
 use Rattle.run_rerun.specs.Outstanding.{ids_had, ids_passed}
 
 -- the tests of a run with these settings that took just these turns: those that it has, and those that passed by what
--- it told a reporter that refuses nothing
+-- it told a reporter that refuses nothing; and whether it is over
 pub record AreTestsOf (p : Settings) (turns : List Turn) (tests : RunTests) : Type 0 where
   pub journal : List Entry
   pub took : IsJournalOf p turns refuses_none journal
   pub had : tests.has ≡ ids_had p.plan
   pub passes : tests.passed ≡ ids_passed p.plan (told (past_of p journal))
+  pub ends : tests.over ≡ is_over (past_of p journal)
 
 -- what each answer says of the turns, after a plan that isn't refused
 abbrev pub SaysTests : Settings → List Turn → Result RunTests RerunError → Type 0

@@ -1,5 +1,5 @@
 // What is said of a stored run.
-use run_capture::{List, OutOfMemory};
+use run_capture::{Blob, List, OutOfMemory};
 use run_events::TestInstanceId;
 use thiserror::Error;
 
@@ -10,6 +10,32 @@ pub struct RunTests {
     pub has: List<TestInstanceId>,
     /// Those of them that passed.
     pub passed: List<TestInstanceId>,
+    /// Whether the run is over.
+    pub over: bool,
+}
+
+/// The plan line of a run that a store has, and its tests.
+#[derive(Drop)]
+pub struct StoredRun {
+    pub line: Blob,
+    pub tests: RunTests,
+    /// Whether the store is whole.
+    pub whole: bool,
+}
+
+/// What recorded shards come to together. Shards are counted from 0.
+#[derive(Drop)]
+pub enum ShardsVerdict {
+    /// They are the whole of one plan: how many tests it wants, and how many of them passed.
+    Whole { tests: u64, passed: u64 },
+    /// This shard is cut short: its store is torn, or its run isn't over.
+    Cut { shard: u64 },
+    /// This shard is of another plan than the first.
+    Other { shard: u64 },
+    /// More than one shard has this test.
+    Twice(TestInstanceId),
+    /// No shard has this test.
+    Missing(TestInstanceId),
 }
 
 /// Why it isn't known which tests passed in a run.

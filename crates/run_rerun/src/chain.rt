@@ -1,11 +1,11 @@
 // Which tests a chain of runs leaves outstanding.
-ghost use Rattle.std.specs.Prelude.{◌≡◌, IfOk, OnOk, if◌then◌else◌, not};
+ghost use Rattle.std.specs.Prelude.{◌≡◌, IfOk, OnOk, if◌then◌else◌, map, not};
 ghost use Rattle.std.specs.List.Sorted.{IsStrictlySortedBy};
 ghost use Rattle.run_events.specs.declared.plan.TestInstanceId.{TestInstanceId};
 ghost use Rattle.run_model.specs.Reruns.{id_order, is_one_test};
 ghost use Rattle.run_rerun.specs.Outstanding.{AreOutstanding, has_id};
 
-use crate::answers::RunTests;
+use crate::answers::{RunTests, StoredRun};
 use run_capture::{Duplicate, List, Mem};
 use run_events::TestInstanceId;
 use std::alloc::Global;
@@ -66,12 +66,12 @@ fn list_of(alloc: Global, ids: BTreeSet<TestInstanceId>) -> Mem<List<TestInstanc
 
 /// The tests that a chain of runs, oldest first, leaves outstanding: those that some run has, and that didn't pass in
 /// the latest run that has them. They are in ascending order, each of them once.
-pub fn outstanding(alloc: Global, chain: &[RunTests]) -> Mem<List<TestInstanceId>>
-    ensures { IfOk result (AreOutstanding chain.now) }
+pub fn outstanding(alloc: Global, chain: &[StoredRun]) -> Mem<List<TestInstanceId>>
+    ensures { IfOk result (AreOutstanding (map (λ run. run.tests) chain.now)) }
 {
     let mut left = BTreeSet::new(alloc);
     for run in chain {
-        take_run(alloc, &mut left, run)?;
+        take_run(alloc, &mut left, &run.tests)?;
     }
     list_of(alloc, left)
 }

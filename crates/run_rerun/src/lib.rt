@@ -10,10 +10,16 @@ mod ledger;
 mod made;
 mod passed;
 mod plan_made;
+mod seen;
+mod shard_lines;
+mod shards;
 mod stored;
 mod tests;
+mod whole;
 
-pub use answers::{RerunError, RunTests};
+pub use answers::{RerunError, RunTests, ShardsVerdict, StoredRun};
 pub use chain::outstanding;
 pub use plan_made::rerun_plan;
+pub use shard_lines::shards_line;
+pub use shards::shards_verdict;
 pub use stored::run_passed;

@@ -17,8 +17,8 @@ use serde_json::{Map, Value};
 use std::alloc::Global;
 use std::collections::BTreeSet;
 
-// Puts a value at a key, and gives what was there.
-fn put_member(
+/// Puts a value at a key, and gives what was there.
+pub fn put_member(
     alloc: Global,
     members: &mut Map<String, Value>,
     key: &str,
@@ -103,8 +103,8 @@ fn made_tests(alloc: Global, ids: &BTreeSet<TestInstanceId>, tests: Value) -> Me
     }
 }
 
-// The name of a test as a value: its binary, and its name within it.
-fn id_value(alloc: Global, id: &TestInstanceId) -> Mem<Value>
+/// The name of a test as a value: its binary, and its name within it.
+pub fn id_value(alloc: Global, id: &TestInstanceId) -> Mem<Value>
     ensures { IfOk result (λ v. view v ≡ test_data id.now) }
 {
     let mut pair = Vec::with_capacity(alloc, 2)?;

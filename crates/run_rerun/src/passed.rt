@@ -19,14 +19,15 @@ use run_input::{RunnerKeys, read_plan_line};
 use std::alloc::Global;
 use std::convert::Infallible;
 
-// What the answer to turns comes to here: a run that isn't over is no error.
+// What the answer to turns comes to here: whether the run is over.
 fn as_rerun(
     answer: Result<RunOutcome, TestRunnerExecuteErrors<Infallible>>,
-) -> Result<(), RerunError>
+) -> Result<bool, RerunError>
     ensures { result ≡ as_rerun answer }
 {
     match answer {
-        Ok(_) | Err(TestRunnerExecuteErrors::Unfinished) => Ok(()),
+        Ok(_) => Ok(true),
+        Err(TestRunnerExecuteErrors::Unfinished) => Ok(false),
         Err(TestRunnerExecuteErrors::NotEnabled { turn }) => Err(RerunError::NotEnabled { turn }),
         Err(TestRunnerExecuteErrors::ThirdSignal { turn }) => Err(RerunError::ThirdSignal { turn }),
         Err(TestRunnerExecuteErrors::Report(_)) | Err(TestRunnerExecuteErrors::OutOfMemory) => {
@@ -35,13 +36,13 @@ fn as_rerun(
     }
 }
 
-// Takes the turns of a runner, with a ledger that was told nothing.
+// Takes the turns of a runner, with a ledger that was told nothing; and whether the run is over then.
 fn take_turns(
     alloc: Global,
     runner: TestRunner,
     turns: &[Turn],
     ledger: &mut Ledger,
-) -> Result<(), RerunError>
+) -> Result<bool, RerunError>
     requires turns { length turns.now < 2 ^ 32 }
     requires fresh { IsLedgerOf ledger.old [] }
     ensures says { SaysTaken runner turns.now ledger.new result }
@@ -64,7 +65,7 @@ fn run_with(
 {
     let mut ledger = Ledger::new(alloc);
     match take_turns(alloc, runner, turns, &mut ledger) {
-        Ok(()) => match tests_of(alloc, had, &ledger) {
+        Ok(over) => match tests_of(alloc, had, &ledger, over) {
             Ok(tests) => Ok(tests),
             Err(_) => Err(RerunError::OutOfMemory),
         },

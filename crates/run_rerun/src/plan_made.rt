@@ -17,8 +17,8 @@ use run_events::TestInstanceId;
 use serde_json::Value;
 use std::alloc::Global;
 
-// The text of a value.
-fn text_of(alloc: Global, value: &Value) -> Mem<Text>
+/// The text of a value.
+pub fn text_of(alloc: Global, value: &Value) -> Mem<Text>
     ensures text { IfOk result (λ t. has_float (view value.now) ≡ false → t ≡ compact_text (view value.now)) }
     ensures utf8 { IfOk result IsUtf8 }
     ensures reads_back { IfOk result (λ t. depth (view value.now) ≤ max_depth → read t ≡ Some (view value.now)) }

@@ -53,13 +53,19 @@ fn ids_of(alloc: Global, had: Vec<(u32, TestInstanceId)>) -> Mem<List<TestInstan
     Ok(List::from_vec(ids))
 }
 
-/// The tests of a run that has these, and whose ledger is this.
-pub fn tests_of(alloc: Global, had: Vec<(u32, TestInstanceId)>, ledger: &Ledger) -> Mem<RunTests>
+/// The tests of a run that has these, whose ledger is this, and that is over or not.
+pub fn tests_of(
+    alloc: Global,
+    had: Vec<(u32, TestInstanceId)>,
+    ledger: &Ledger,
+    over: bool,
+) -> Mem<RunTests>
     ensures had { IfOk result (λ tests. tests.has ≡ map (λ t. t.1) had.items) }
     ensures passed { IfOk result
         (λ tests. tests.passed ≡ map (λ t. t.1) (filter (λ t. is_marked ledger.now t.0) had.items)) }
+    ensures over { IfOk result (λ tests. tests.over ≡ over) }
 {
     let passed = ids_marked(alloc, had.as_slice(), ledger)?;
     let has = ids_of(alloc, had)?;
-    Ok(RunTests { has, passed })
+    Ok(RunTests { has, passed, over })
 }

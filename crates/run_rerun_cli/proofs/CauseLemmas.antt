@@ -18,7 +18,7 @@ use Rattle.run_cli.specs.Call.{Writing, HasWriteFault}
 use Rattle.run_cli.specs.Cause.{Gets}
 use Rattle.run_rerun_cli.specs.declared.faults.RerunFault.{RerunFault}
 use Rattle.run_rerun_cli.specs.declared.faults.RerunFault.TheVariants as faults
-use Rattle.run_rerun_cli.specs.declared.runs.StoredRun.{StoredRun}
+use Rattle.run_rerun.specs.declared.answers.StoredRun.{StoredRun}
 use Rattle.run_rerun_cli.specs.declared.verdicts.Verdict.{Verdict}
 use Rattle.run_rerun_cli.specs.declared.verdicts.Verdict.TheVariants.{Rerun, NothingLeft, Faulty}
 use Rattle.run_rerun_cli.specs.Chains.{HaveRuns, IsFirstFault}
@@ -43,7 +43,7 @@ first_has P names n k name all below at =
     subst P there (all k name (omega (arith, length-take n names)))
 
 -- the bytes of a name that is told
-told_as : (o : Option (List ℕ)) → IsSome o → (bytes : List ℕ) × (o ≡ Some bytes)
+pub told_as : (o : Option (List ℕ)) → IsSome o → (bytes : List ℕ) × (o ≡ Some bytes)
 told_as (Some bytes) some = (bytes, refl)
 told_as None some = cc
 
@@ -79,7 +79,7 @@ calm_quiet true before after rose calm = absurd (calm rose.1)
 calm_quiet false before after rose calm = refl
 
 -- so a chain of runs has no fault
-chain_or_fault : (names : List (List ℕ)) (s : Shelf) (runs : List StoredRun) (place : ℕ) (fault : RerunFault)
+pub chain_or_fault : (names : List (List ℕ)) (s : Shelf) (runs : List StoredRun) (place : ℕ) (fault : RerunFault)
     → HasChain names s runs → IsFirstFault names s place fault → ⊥
 chain_or_fault names s runs place fault chain first =
     let quiet = calm_quiet (is_reading_fault fault) s.faults s.faults_after first.counted chain.calm in
@@ -106,7 +106,7 @@ same_tests bytes (name ∷ names) (r ∷ rs) (o ∷ os) told have also =
     cc
 
 -- the first fault is one
-same_fault : (names : List (List ℕ)) (s : Shelf) (place other : ℕ) (fault last : RerunFault) → ¬ HasShelfFault s
+pub same_fault : (names : List (List ℕ)) (s : Shelf) (place other : ℕ) (fault last : RerunFault) → ¬ HasShelfFault s
     → AreNamesTold s (take (place + 1) names) → IsFirstFault names s place fault → IsFirstFault names s other last
     → rerun_fault_status last ≡ rerun_fault_status fault
 same_fault names s place other fault last calm told one two =
@@ -148,19 +148,19 @@ same_fault names s place other fault last calm told one two =
 
 -- ---- the statuses of a line
 
-calm_gets : (w : Writing) (text : List ℕ) (written failed status : ℕ) → EndsWith w text written failed status
+pub calm_gets : (w : Writing) (text : List ℕ) (written failed status : ℕ) → EndsWith w text written failed status
     → ¬ HasWriteFault w → Gets status written
 calm_gets w text written failed status (inl (is, took, same)) calm = inl is
 calm_gets w text written failed status (inr (inl (is, took, le, rose))) calm = absurd (calm rose)
 calm_gets w text written failed status (inr (inr (is, short))) calm = inr is
 
-rose_gets : (w : Writing) (text : List ℕ) (written failed status : ℕ) → EndsWith w text written failed status
+pub rose_gets : (w : Writing) (text : List ℕ) (written failed status : ℕ) → EndsWith w text written failed status
     → w.faults < w.faults_after → Gets status failed
 rose_gets w text written failed status (inl (is, took, same)) lt = absurd (omega arith)
 rose_gets w text written failed status (inr (inl (is, took, le, rose))) lt = inl is
 rose_gets w text written failed status (inr (inr (is, short))) lt = inr is
 
-same_gets : (w : Writing) (text : List ℕ) (expected status : ℕ) → EndsWith w text expected expected status
+pub same_gets : (w : Writing) (text : List ℕ) (expected status : ℕ) → EndsWith w text expected expected status
     → Gets status expected
 same_gets w text expected status (inl (is, took, same)) = inl is
 same_gets w text expected status (inr (inl (is, took, le, rose))) = inl is
@@ -215,7 +215,7 @@ unread_gets names s Did w status (inl (Faulty place fault, (first, visits), ends
 unread_gets names s Did w status (inr (early, done, calm)) lt = absurd (omega arith)
 
 -- where a store has the first fault, not all have runs
-none_at : (names : List (List ℕ)) (s : Shelf) (runs : List StoredRun) → ¬ HasShelfFault s → (place : ℕ)
+pub none_at : (names : List (List ℕ)) (s : Shelf) (runs : List StoredRun) → ¬ HasShelfFault s → (place : ℕ)
     (fault : RerunFault) → AreNamesTold s (take (place + 1) names) → IsFirstFault names s place fault
     → HaveRuns s.bytes names runs → ⊥
 none_at names s runs calm place fault told first have =
@@ -318,7 +318,7 @@ is_known names s Did w status (inr (early, done, quiet)) =
     subst (Contains rerun_statuses) (sym early.0) (listed 7 11 (omega arith) refl)
 
 -- 10 comes of a store that could not be read alone
-line_is : (w : Writing) (text : List ℕ) (written failed status : ℕ) → EndsWith w text written failed status
+pub line_is : (w : Writing) (text : List ℕ) (written failed status : ℕ) → EndsWith w text written failed status
     → status ≡ 10 → (written ≡ 10) ⊎ (failed ≡ 10)
 line_is w text written failed status (inl (is, took, same)) ten = inl (sym is ∙ ten)
 line_is w text written failed status (inr (inl (is, took, le, rose))) ten = inr (sym is ∙ ten)
@@ -328,7 +328,7 @@ other_than : (a b : ℕ) → (a ≡ 10 → ⊥) → (b ≡ 10 → ⊥) → (a �
 other_than a b not_a not_b (inl is) = not_a is
 other_than a b not_a not_b (inr is) = not_b is
 
-either_ten : (a : ℕ) → (a ≡ 10) ⊎ (a ≡ 10) → a ≡ 10
+pub either_ten : (a : ℕ) → (a ≡ 10) ⊎ (a ≡ 10) → a ≡ 10
 either_ten a (inl is) = is
 either_ten a (inr is) = is
 

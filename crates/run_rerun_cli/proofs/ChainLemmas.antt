@@ -1,42 +1,26 @@
 -- Reading a chain of stores.
-use Rattle.std.proofs.Common.{◌≡◌, ◌∙◌, ℕ, zero, suc, ◌+◌, ◌<◌, ◌≤◌, ◌⊎◌, inl, inr, List, [], ◌∷◌, ◌++◌, length, map}
-use Rattle.std.proofs.Common.{take, get_or, option_map, Option, Some, None, IsSome, Result, Ok, Err, true, false, Bool}
-use Rattle.std.proofs.Common.{refl, sym, ap, subst, arith, append_assoc, add-one}
-use Rattle.std.specs.List.{slice_get}
+use Rattle.std.proofs.Common.{◌≡◌, ◌∙◌, ℕ, zero, suc, ◌+◌, ◌-◌, ◌<◌, ◌≤◌, ◌⊎◌, inl, inr, List, [], ◌∷◌, ◌++◌, length}
+use Rattle.std.proofs.Common.{map, take, get_or, option_map, Option, Some, None, IsSome, Result, Ok, Err, true, false}
+use Rattle.std.proofs.Common.{Bool, refl, sym, ap, subst, arith, append_assoc, add-one}
+use Rattle.std.specs.List.{All, slice_get}
 use Rattle.std.proofs.lemmas.Option.{slice_get-map, slice_get_read}
-use Rattle.std.proofs.lemmas.List.{append-nil, map-append, take_all}
+use Rattle.std.proofs.lemmas.List.{append-nil, take_all}
 use Rattle.run_capture.specs.Faults.{RoseExactlyIf}
 use Rattle.run_events.specs.Stats.{last_or}
+use Rattle.run_events.proofs.StatsLemmas.{last_or_read}
 use Rattle.run_input.specs.Input.{plan_line_of}
-use Rattle.run_rerun.specs.declared.answers.RunTests.{RunTests}
-use Rattle.run_rerun_cli.specs.declared.chain.Chain.{Chain}
 use Rattle.run_rerun_cli.specs.declared.faults.FoundError.{FoundError}
 use Rattle.run_rerun_cli.specs.declared.faults.FoundError.TheVariants as found
 use Rattle.run_rerun_cli.specs.declared.faults.RerunFault.{RerunFault}
-use Rattle.run_rerun_cli.specs.declared.runs.StoredRun.{StoredRun}
+use Rattle.run_rerun.specs.declared.answers.StoredRun.{StoredRun}
 use Rattle.run_rerun_cli.specs.declared.stores.Stores.{Ghosts as OfStores}
 use Rattle.run_rerun_cli.specs.Chains.{HaveRuns, IsFirstFault, VisitsTo, newest_line}
 use Rattle.run_rerun_cli.specs.Finds.{GivesError, VisitsOne, is_reading_error}
 use Rattle.run_rerun_cli.specs.Found.{HasTests, ShowsFault}
-use Rattle.run_rerun_cli.specs.Reads.{IsChainOf, ReadSoFar, ReadsChain, TakesStore, chain_error}
+use Rattle.run_rerun_cli.specs.Reads.{ReadSoFar, ReadsChain, TakesStore, chain_error}
 use Rattle.run_rerun_cli.specs.RerunFaults.{is_reading_fault}
 use Rattle.run_rerun_cli.specs.Shelves.{doing_of, shelf_of}
 use Rattle.run_rerun_cli.specs.Visits.{StoreAct, DoesNext, opened, unopened, given_back, visits}
-
--- the last of items is one that was added
-last_or-one : {X : Type 0} (x y : X) (xs : List X) → last_or x (xs ++ y ∷ []) ≡ y
-last_or-one x y [] = refl
-last_or-one x y (z ∷ zs) = last_or-one z y zs
-
--- a run was added to a chain
-pub added : (chain : Chain) (runs : List StoredRun) (run : StoredRun) (tests : List RunTests) → IsChainOf chain runs
-    → tests ≡ chain.tests ++ run.tests ∷ [] → IsChainOf (record { tests = tests; line = run.line }) (runs ++ run ∷ [])
-added chain runs run tests h is =
-    record {
-      tests = is ∙ ap (λ ts. ts ++ run.tests ∷ []) h.tests ∙ sym (map-append (λ run. run.tests) runs (run ∷ []));
-      line = sym (ap (last_or []) (map-append (λ run. run.line) runs (run ∷ []))
-          ∙ last_or-one [] run.line (map (λ run. run.line) runs));
-    }
 
 -- what is made of an item, where it is
 pub item_at : {A B : Type 0} (f : A → B) (xs : List A) (n : ℕ) (x : A) (y : B) → n < length xs → x ≡ get_or xs n x
@@ -77,13 +61,11 @@ does_both did a b d xs ys first second =
     λ acts h. subst (did d) (append_assoc acts xs ys) (second (acts ++ xs) (first acts h))
 
 -- nothing was done yet
-pub reads_none : {T X : Type 0} (t : OfStores T X) (s : T) (names : List (List ℕ)) (chain : Chain) → chain.tests ≡ []
-    → chain.line ≡ [] → ReadSoFar names (shelf_of t s s) (doing_of t s s) chain 0
-reads_none t s names chain none empty =
+pub reads_none : {T X : Type 0} (t : OfStores T X) (s : T) (names : List (List ℕ)) (runs : List StoredRun) → runs ≡ []
+    → ReadSoFar names (shelf_of t s s) (doing_of t s s) runs 0
+reads_none t s names runs none =
     record {
-      runs = [];
-      have = tt;
-      kept = record { tests = none; line = empty };
+      have = subst (HaveRuns (t.bytes s) []) (sym none) tt;
       did = λ acts h. subst (t.did s) (sym (append-nil acts)) h;
       calm = refl;
     }
@@ -100,35 +82,34 @@ visited t a b d names count name at before next =
 
 -- one more store has a run
 pub reads_next : {T X : Type 0} (t : OfStores T X) (a b d : T) (names : List (List ℕ)) (count : ℕ) (name : List ℕ)
-    (chain next : Chain) → ReadSoFar names (shelf_of t a b) (doing_of t a b) chain count
+    (runs next : List StoredRun) → ReadSoFar names (shelf_of t a b) (doing_of t a b) runs count
     → t.bytes b name ≡ t.bytes a name → slice_get names count ≡ Some name
-    → TakesStore (t.bytes b name) chain next (Ok tt) → t.faults d ≡ t.faults b
+    → TakesStore (t.bytes b name) runs next (Ok tt) → t.faults d ≡ t.faults b
     → VisitsOne {T = Unit {0}} name (doing_of t b d) (Ok tt)
     → ReadSoFar names (shelf_of t a d) (doing_of t a d) next (count + 1)
-reads_next t a b d names count name chain next h same at (run, one, adds) calm (inl did) =
+reads_next t a b d names count name runs next h same at (run, one, adds) calm (inl did) =
     let here = subst (λ told. HasTests told run) same one in
     record {
-      runs = h.runs ++ run ∷ [];
-      have = subst (λ ns. HaveRuns (t.bytes a) ns (h.runs ++ run ∷ [])) (sym (take_next names count name at))
-          (have_next (t.bytes a) (take count names) h.runs name run h.have here);
-      kept = adds h.runs h.kept;
+      have = subst (λ ns. HaveRuns (t.bytes a) ns next) (sym (take_next names count name at))
+          (subst (HaveRuns (t.bytes a) (take count names ++ name ∷ [])) (sym adds)
+          (have_next (t.bytes a) (take count names) runs name run h.have here));
       did = visited t a b d names count name at h.did did;
       calm = calm ∙ h.calm;
     }
-reads_next t a b d names count name chain next h same at takes calm (inr (is, did)) = cc
+reads_next t a b d names count name runs next h same at takes calm (inr (is, did)) = cc
 
 -- one has none
 pub reads_fault : {T X : Type 0} (t : OfStores T X) (a b d : T) (names : List (List ℕ)) (count : ℕ) (name : List ℕ)
-    (chain : Chain) (e : FoundError) → ReadSoFar names (shelf_of t a b) (doing_of t a b) chain count
+    (runs : List StoredRun) (e : FoundError) → ReadSoFar names (shelf_of t a b) (doing_of t a b) runs count
     → t.bytes b name ≡ t.bytes a name → slice_get names count ≡ Some name → GivesError (t.bytes b name) e
     → RoseExactlyIf (is_reading_error e) (t.faults b) (t.faults d)
     → VisitsOne {T = Unit {0}} name (doing_of t b d) (Err e)
     → ReadsChain names (shelf_of t a d) (doing_of t a d) (Err (chain_error count e))
-reads_fault t a b d names count name chain (found.Fault fault) h same at shows rose did = (
+reads_fault t a b d names count name runs (found.Fault fault) h same at shows rose did = (
   record {
     name = name;
     at = at;
-    runs = h.runs;
+    runs = runs;
     before = h.have;
     here = subst (λ told. ShowsFault told fault) same shows;
     counted = subst (λ n. RoseExactlyIf (is_reading_fault fault) n (t.faults d)) h.calm rose;
@@ -148,22 +129,53 @@ reads_fault t a b d names count name chain (found.Fault fault) h same at shows r
             does_both t.did a b d (visits (take count names)) (unopened name ∷ []) h.did done,
           ),
         )
-reads_fault t a b d names count name chain found.OutOfMemory h same at shows rose (inl done) =
+reads_fault t a b d names count name runs found.OutOfMemory h same at shows rose (inl done) =
     ((count + 1, visited t a b d names count name at h.did done), rose ∙ h.calm)
-reads_fault t a b d names count name chain found.OutOfMemory h same at shows rose (inr (is, done)) = cc
+reads_fault t a b d names count name runs found.OutOfMemory h same at shows rose (inr (is, done)) = cc
 
 -- all have runs
-pub reads_all : {T X : Type 0} (t : OfStores T X) (a b : T) (names : List (List ℕ)) (count : ℕ) (chain : Chain)
-    → length names ≤ count → ReadSoFar names (shelf_of t a b) (doing_of t a b) chain count
-    → ReadsChain names (shelf_of t a b) (doing_of t a b) (Ok chain)
-reads_all t a b names count chain all h =
+pub reads_all : {T X : Type 0} (t : OfStores T X) (a b : T) (names : List (List ℕ)) (count : ℕ) (runs : List StoredRun)
+    → length names ≤ count → ReadSoFar names (shelf_of t a b) (doing_of t a b) runs count
+    → ReadsChain names (shelf_of t a b) (doing_of t a b) (Ok runs)
+reads_all t a b names count runs all h =
     let whole = take_all count names all in (
-      h.runs,
-      subst (λ ns. HaveRuns (t.bytes a) ns h.runs) whole h.have,
-      h.kept,
+      subst (λ ns. HaveRuns (t.bytes a) ns runs) whole h.have,
       subst (λ ns. doing_of t a b (visits ns)) whole h.did,
       h.calm,
     )
+
+-- the plan line of the last of runs
+last_line : (run : StoredRun) (runs : List StoredRun)
+    → last_or run.line (map (λ run. run.line) runs) ≡ (last_or run runs).line
+last_line run [] = refl
+last_line run (next ∷ runs) = last_line next runs
+
+pub newest_read : (runs : List StoredRun) (run : StoredRun) → slice_get runs (length runs - 1) ≡ Some run
+    → run.line ≡ newest_line runs
+newest_read [] run read = cc
+newest_read (first ∷ runs) run read =
+    ap (λ (r : StoredRun). r.line) (last_or_read first (first ∷ runs) run read) ∙ sym (last_line first runs)
+
+-- each of runs has a plan line
+pub lines_say : (bytes : List ℕ → Option (List ℕ)) (names : List (List ℕ)) (runs : List StoredRun)
+    → HaveRuns bytes names runs → All (λ run. IsSome (plan_line_of run.line)) runs
+lines_say bytes names [] have k d below = absurd (omega arith)
+lines_say bytes [] (run ∷ runs) have k d below = absurd have
+lines_say bytes (name ∷ names) (run ∷ runs) have zero d below = is_said (plan_line_of run.line) have.0.has.says
+  where
+    is_said : {X : Type 0} (o : Option X) {x : X} → o ≡ Some x → IsSome o
+    is_said (Some y) is = refl
+    is_said None is = cc
+lines_say bytes (name ∷ names) (run ∷ runs) have (suc k) d below =
+    lines_say bytes names runs have.1 k d (omega arith)
+
+-- there is a run for each name
+pub as_many : (bytes : List ℕ → Option (List ℕ)) (names : List (List ℕ)) (runs : List StoredRun)
+    → HaveRuns bytes names runs → length runs ≡ length names
+as_many bytes [] [] have = refl
+as_many bytes [] (run ∷ runs) have = absurd have
+as_many bytes (name ∷ names) [] have = absurd have
+as_many bytes (name ∷ names) (run ∷ runs) have = omega (arith, as_many bytes names runs have.1)
 
 -- the newest of runs has a plan line
 pub newest_says : (bytes : List ℕ → Option (List ℕ)) (names : List (List ℕ)) (runs : List StoredRun)

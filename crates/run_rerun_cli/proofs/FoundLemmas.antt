@@ -65,7 +65,9 @@ is_there None h = cc
 -- so its tests are those of that run
 pub has_tests : (told : Option (List ℕ)) (s : Stored) (tests : RunTests) → HasStored told s
     → IsSome (plan_line_of s.plan) → ((keys : RunnerKeys) (plan : Plan) → plan_line_of s.plan ≡ Some (keys, plan)
-    → SaysStored keys plan s.turns (Ok tests)) → HasTests told (record { line = s.plan; tests = tests })
+    → SaysStored keys plan s.turns (Ok tests))
+    → HasTests told (record { line = s.plan; tests = tests; whole = s.whole })
+unfolding has_run
 has_tests told s tests has said says =
     let there = is_there (plan_line_of s.plan) said in
     let run = says there.0.0 there.0.1 there.1 in
@@ -74,6 +76,7 @@ has_tests told s tests has said says =
       plan = there.0.1;
       turns = s.turns;
       has = has_run told s there.0.0 there.0.1 has there.1;
+      ends = refl;
       accepted = run.0;
       tests = run.1;
     }

@@ -6,3 +6,4 @@ mod VerdictLemmas
 mod WordLemmas
 mod OneLemmas
 mod CauseLemmas
+mod ShardEndLemmas

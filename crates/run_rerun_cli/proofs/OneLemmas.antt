@@ -24,7 +24,7 @@ use Rattle.run_rerun.specs.Outstanding.{ids_passed}
 use Rattle.run_rerun.specs.Runs.{AreTestsOf}
 use Rattle.run_rerun_cli.specs.declared.faults.RerunFault.{RerunFault}
 use Rattle.run_rerun_cli.specs.declared.faults.RerunFault.TheVariants as faults
-use Rattle.run_rerun_cli.specs.declared.runs.StoredRun.{StoredRun}
+use Rattle.run_rerun.specs.declared.answers.StoredRun.{StoredRun}
 use Rattle.run_rerun_cli.specs.Found.{HasBytes, HasStoredRun, HasTests, IsRefusedIn, IsStoreOf, IsTooLongStore}
 use Rattle.run_rerun_cli.specs.Found.{ShowsFault, StopsIn}
 use Rattle.run_rerun_cli.specs.RerunFaults.{is_reading_fault, rerun_fault_status}
@@ -66,6 +66,16 @@ turns_in (bad place) = []
 abbrev run_reading : Bool → List ℕ → List Turn → StoreReading
 run_reading ended line turns = if ended then whole line turns else torn line turns
 
+abbrev ended_in : StoreReading → Bool
+ended_in (whole line turns) = true
+ended_in (torn line turns) = false
+ended_in no_plan = false
+ended_in (bad place) = false
+
+ended_of_run : (b : Bool) (line : List ℕ) (turns : List Turn) → ended_in (run_reading b line turns) ≡ b
+ended_of_run true line turns = refl
+ended_of_run false line turns = refl
+
 line_of_run : (b : Bool) (line : List ℕ) (turns : List Turn) → line_in (run_reading b line turns) ≡ line
 line_of_run true line turns = refl
 line_of_run false line turns = refl
@@ -84,16 +94,18 @@ no_run_bad true line turns place is = cc
 no_run_bad false line turns place is = cc
 
 -- so a store has one run
-record IsSameRun (line : List ℕ) (keys : RunnerKeys) (plan : Plan) (turns : List Turn) (other : List ℕ)
-    (k : RunnerKeys) (p : Plan) (ts : List Turn) : Type 0 where
+record IsSameRun (ended : Bool) (line : List ℕ) (keys : RunnerKeys) (plan : Plan) (turns : List Turn) (e : Bool)
+    (other : List ℕ) (k : RunnerKeys) (p : Plan) (ts : List Turn) : Type 0 where
+  ended_is : e ≡ ended
   line_is : other ≡ line
   keys_is : k ≡ keys
   plan_is : p ≡ plan
   turns_is : ts ≡ turns
 
 one_run : (told : Option (List ℕ)) (bytes line other : List ℕ) (keys k : RunnerKeys) (plan p : Plan)
-    (turns ts : List Turn) → told ≡ Some bytes → HasStoredRun told line keys plan turns → HasStoredRun told other k p ts
-    → IsSameRun line keys plan turns other k p ts
+    (turns ts : List Turn) → told ≡ Some bytes → (one : HasStoredRun told line keys plan turns)
+    → (two : HasStoredRun told other k p ts)
+    → IsSameRun one.ended line keys plan turns two.ended other k p ts
 one_run told bytes line other keys k plan p turns ts is one two =
     let same = one_store told bytes (run_reading one.ended line turns) (run_reading two.ended other ts) is one.store
     two.store in
@@ -104,6 +116,7 @@ one_run told bytes line other keys k plan p turns ts is one two =
     let both : Some its ≡ Some mine = sym two.says ∙ ap plan_line_of lines ∙ one.says in
     let pair : its ≡ mine = cc in
     record {
+      ended_is = sym (ended_of_run two.ended other ts) ∙ ap ended_in same ∙ ended_of_run one.ended line turns;
       line_is = lines;
       keys_is = ap (λ (x : RunnerKeys × Plan). x.0) pair;
       plan_is = ap (λ (x : RunnerKeys × Plan). x.1) pair;
@@ -283,14 +296,12 @@ tests_by p turns a b one two =
     let had : b.has ≡ a.has = two.had ∙ sym one.had in
     let passes : b.passed ≡ a.passed =
     two.passes ∙ ap (λ j. ids_passed p.plan (events_told (past_of p j))) same ∙ sym one.passes in
-    by_fields b a had passes
+    by_fields b a had passes (two.ends ∙ ap (λ j. is_over (past_of p j)) same ∙ sym one.ends)
   where
-    pair : {A B : Type 0} {a b : A} {c d : B} → a ≡ b → c ≡ d → ◌≡◌ {A = A × B} (a, c) (b, d)
-    pair p q = cc
-
-    by_fields : (x y : RunTests) → x.has ≡ y.has → x.passed ≡ y.passed → x ≡ y
-    by_fields x y had passes =
-        ap (λ (f : List TestInstanceId × List TestInstanceId). record { has = f.0; passed = f.1 }) (pair had passes)
+    by_fields : (x y : RunTests) → x.has ≡ y.has → x.passed ≡ y.passed → x.over ≡ y.over → x ≡ y
+    by_fields x y had passes ends =
+        ap (λ ids. record x { has = ids }) had ∙ ap (λ ids. record y { passed = ids; over = x.over }) passes
+        ∙ ap (λ b. record y { over = b }) ends
 
 pub one_tests : (told : Option (List ℕ)) (bytes : List ℕ) (a b : StoredRun) → told ≡ Some bytes → HasTests told a
     → HasTests told b → b.tests ≡ a.tests
@@ -301,3 +312,13 @@ one_tests told bytes a b is one two =
     (subst (λ k. AreTestsOf (settings_for k one.plan) one.turns b.tests) same.keys_is
     (subst (λ p. AreTestsOf (settings_for two.keys p) one.turns b.tests) same.plan_is
     (subst (λ ts. AreTestsOf (settings_for two.keys two.plan) ts b.tests) same.turns_is two.tests)))
+
+-- and so it has one run
+pub one_stored : (told : Option (List ℕ)) (bytes : List ℕ) (a b : StoredRun) → told ≡ Some bytes → HasTests told a
+    → HasTests told b → b ≡ a
+one_stored told bytes a b is one two =
+    let same = one_run told bytes a.line b.line one.keys two.keys one.plan two.plan one.turns two.turns is one.has
+    two.has in
+    ap (λ line. record b { line = line }) same.line_is
+    ∙ ap (λ tests. record a { tests = tests; whole = b.whole }) (one_tests told bytes a b is one two)
+    ∙ ap (λ ended. record a { whole = ended }) (two.ends ∙ same.ended_is ∙ sym one.ends)

@@ -5,7 +5,7 @@ use Rattle.run_capture.specs.Faults.{RoseExactlyIf}
 use Rattle.run_events.specs.Stats.{last_or}
 use Rattle.run_rerun_cli.specs.declared.faults.RerunFault.{RerunFault}
 use Rattle.run_rerun_cli.specs.declared.faults.RerunFault.TheVariants.{Read}
-use Rattle.run_rerun_cli.specs.declared.runs.StoredRun.{StoredRun}
+use Rattle.run_rerun.specs.declared.answers.StoredRun.{StoredRun}
 use Rattle.run_rerun_cli.specs.Found.{HasTests, ShowsFault}
 use Rattle.run_rerun_cli.specs.RerunFaults.{is_reading_fault}
 use Rattle.run_rerun_cli.specs.Shelves.{Shelf}

@@ -16,7 +16,7 @@ use Rattle.run_rerun_cli.specs.declared.faults.RerunFault.{RerunFault}
 use Rattle.run_rerun_cli.specs.declared.faults.RerunFault.TheVariants as faults
 use Rattle.run_rerun_cli.specs.declared.faults.FoundError.{FoundError}
 use Rattle.run_rerun_cli.specs.declared.faults.FoundError.TheVariants as found
-use Rattle.run_rerun_cli.specs.declared.runs.StoredRun.{StoredRun}
+use Rattle.run_rerun.specs.declared.answers.StoredRun.{StoredRun}
 use Rattle.run_rerun_cli.specs.Found.{HasTests, IsStoreOf, ShowsFault}
 use Rattle.run_rerun_cli.specs.RerunFaults.{is_reading_fault}
 use Rattle.run_rerun_cli.specs.Visits.{StoreAct, given_back, opened, unopened}
@@ -62,9 +62,9 @@ abbrev pub GivesStored : Option (List ℕ) → Result Stored FoundError → Type
 GivesStored told (Ok s) = HasStored told s
 GivesStored told (Err e) = GivesError told e
 
-abbrev pub GivesTests : Option (List ℕ) → List ℕ → Result RunTests FoundError → Type 0
-GivesTests told line (Ok tests) = HasTests told (record { line = line; tests = tests })
-GivesTests told line (Err e) = GivesError told e
+abbrev pub GivesTests : Option (List ℕ) → List ℕ → Bool → Result RunTests FoundError → Type 0
+GivesTests told line ended (Ok tests) = HasTests told (record { line = line; tests = tests; whole = ended })
+GivesTests told line ended (Err e) = GivesError told e
 
 abbrev pub GivesRun : Option (List ℕ) → Result StoredRun FoundError → Type 0
 GivesRun told (Ok run) = HasTests told run

@@ -14,7 +14,7 @@ use Rattle.run_cli.specs.Plans.{settings_for, plan_refusal, IsPlanFault}
 use Rattle.run_rerun.specs.Runs.{AreTestsOf}
 use Rattle.run_rerun_cli.specs.declared.faults.RerunFault.{RerunFault}
 use Rattle.run_rerun_cli.specs.declared.faults.RerunFault.TheVariants as faults
-use Rattle.run_rerun_cli.specs.declared.runs.StoredRun.{StoredRun}
+use Rattle.run_rerun.specs.declared.answers.StoredRun.{StoredRun}
 
 -- a store has these bytes, where its bytes are told
 abbrev pub HasBytes : Option (List ℕ) → List ℕ → Type 0
@@ -39,12 +39,13 @@ pub record HasStoredRun (told : Option (List ℕ)) (line : List ℕ) (keys : Run
   pub store : IsStoreOf told (if ended then whole line turns else torn line turns)
   pub says : plan_line_of line ≡ Some (keys, plan)
 
--- it has this plan line, and the tests of its run are these
+-- it has this plan line, the tests of its run are these, and it is whole or not
 pub record HasTests (told : Option (List ℕ)) (run : StoredRun) : Type 0 where
   pub keys : RunnerKeys
   pub plan : Plan
   pub turns : List Turn
   pub has : HasStoredRun told run.line keys plan turns
+  pub ends : run.whole ≡ has.ended
   pub accepted : plan_refusal keys plan ≡ None
   pub tests : AreTestsOf (settings_for keys plan) turns run.tests
 

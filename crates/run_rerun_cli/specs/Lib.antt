@@ -9,6 +9,7 @@ pub mod LineEnds
 pub mod Verdicts
 pub mod Comes
 pub mod RerunCauses
+pub mod ShardEnds
 pub mod PlanWords
 pub mod Counted
 pub mod InMemory

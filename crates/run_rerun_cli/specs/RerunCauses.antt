@@ -7,7 +7,7 @@ use Rattle.run_cli.specs.Call.{Writing, HasWriteFault}
 use Rattle.run_cli.specs.Cause.{Gets}
 use Rattle.run_rerun.specs.Outstanding.{is_outstanding}
 use Rattle.run_rerun_cli.specs.declared.faults.RerunFault.{RerunFault}
-use Rattle.run_rerun_cli.specs.declared.runs.StoredRun.{StoredRun}
+use Rattle.run_rerun.specs.declared.answers.StoredRun.{StoredRun}
 use Rattle.run_rerun_cli.specs.Chains.{HaveRuns, IsFirstFault}
 use Rattle.run_rerun_cli.specs.RerunFaults.{is_reading_fault, rerun_fault_status}
 use Rattle.run_rerun_cli.specs.Shelves.{Shelf}

@@ -13,7 +13,7 @@ use Rattle.run_rerun.specs.Outstanding.{AreOutstanding}
 use Rattle.run_cli.specs.Call.{Writing}
 use Rattle.run_rerun_cli.specs.declared.verdicts.Verdict.{Verdict}
 use Rattle.run_rerun_cli.specs.declared.verdicts.Verdict.TheVariants.{Rerun, NothingLeft, Faulty}
-use Rattle.run_rerun_cli.specs.declared.runs.StoredRun.{StoredRun}
+use Rattle.run_rerun.specs.declared.answers.StoredRun.{StoredRun}
 use Rattle.run_rerun_cli.specs.Chains.{HaveRuns, IsFirstFault, VisitsTo, newest_line}
 use Rattle.run_rerun_cli.specs.LineEnds.{EndsEarly, EndsWith}
 use Rattle.run_rerun_cli.specs.RerunFaults.{rerun_fault_status, rerun_fault_text}

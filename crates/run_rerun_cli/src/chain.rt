@@ -2,23 +2,15 @@
 ghost use Rattle.std.specs.Prelude.{ℕ, ◌≡◌, List, map, string_bytes};
 ghost use Rattle.run_capture.specs.Faults.{RoseExactlyIf};
 ghost use Rattle.run_rerun_cli.specs.Finds.{VisitsOne, fails_to_read};
-ghost use Rattle.run_rerun_cli.specs.Reads.{AddsUnless, ReadsChain, TakesStore, chain_error};
+ghost use Rattle.run_rerun_cli.specs.Reads.{ReadsChain, TakesStore, chain_error};
 ghost use Rattle.run_rerun_cli.specs.Shelves.{doing_of, shelf_of};
 
 use crate::faults::{FoundError, RerunFault};
 use crate::found::run_named;
-use crate::runs::StoredRun;
 use crate::stores::Stores;
-use run_capture::{Blob, List};
-use run_rerun::RunTests;
+use run_capture::List;
+use run_rerun::StoredRun;
 use std::alloc::Global;
-
-/// The tests of the runs of a chain, oldest first, and the plan line of the newest one: empty, where there is none.
-#[derive(Drop)]
-pub struct Chain {
-    pub tests: List<RunTests>,
-    pub line: Blob,
-}
 
 /// Why there is no chain.
 #[derive(Clone, Copy, Drop)]
@@ -39,30 +31,21 @@ fn error_at(store: u64, error: FoundError) -> ChainError
     }
 }
 
-// Adds a run at the end of a chain.
-fn add_run(alloc: Global, chain: &mut Chain, run: StoredRun) -> Result<(), FoundError>
-    ensures { AddsUnless chain.old chain.new run result }
-{
-    let StoredRun { line, tests } = run;
-    chain.tests.push(alloc, tests)?;
-    chain.line = line;
-    Ok(())
-}
-
 // Adds the run of the store with this name.
 fn take_store<T: Stores>(
     alloc: Global,
     stores: &mut T,
     name: &str,
-    chain: &mut Chain,
+    runs: &mut List<StoredRun>,
 ) -> Result<(), FoundError>
-    ensures says { TakesStore (T.bytes stores.old name.now) chain.old chain.new result }
+    ensures says { TakesStore (T.bytes stores.old name.now) runs.old runs.new result }
     ensures fault { RoseExactlyIf (fails_to_read result) (T.faults stores.old) (T.faults stores.new) }
     ensures did { VisitsOne name.now (doing_of T.Stores stores.old stores.new) result }
     ensures same { (n : List ℕ) → T.bytes stores.new n ≡ T.bytes stores.old n }
 {
     let run = run_named(alloc, stores, name)?;
-    add_run(alloc, chain, run)
+    runs.push(alloc, run)?;
+    Ok(())
 }
 
 /// The runs of the stores with these names, in their order. The first store that has a fault ends it, and none after
@@ -71,20 +54,17 @@ pub fn read_chain<T: Stores>(
     alloc: Global,
     stores: &mut T,
     names: &[String],
-) -> Result<Chain, ChainError>
+) -> Result<List<StoredRun>, ChainError>
     ensures says { ReadsChain (map (λ w. string_bytes w) names.now) (shelf_of T.Stores stores.old stores.new)
         (doing_of T.Stores stores.old stores.new) result }
     ensures same { (n : List ℕ) → T.bytes stores.new n ≡ T.bytes stores.old n }
 {
-    let mut chain = Chain {
-        tests: List::new(),
-        line: Blob::new(alloc),
-    };
+    let mut runs = List::new();
     for (store, name) in names.iter().enumerate() {
-        match take_store(alloc, stores, name.as_str(), &mut chain) {
+        match take_store(alloc, stores, name.as_str(), &mut runs) {
             Ok(()) => {}
             Err(error) => return Err(error_at(store as u64, error)),
         }
     }
-    Ok(chain)
+    Ok(runs)
 }

@@ -10,13 +10,12 @@ ghost use Rattle.run_rerun_cli.specs.Finds.{GivesTests, found_error, is_reading_
 ghost use Rattle.run_rerun_cli.specs.Shelves.{doing_of};
 
 use crate::faults::{FoundError, RerunFault};
-use crate::runs::StoredRun;
 use crate::stores::Stores;
 use run_cli::{fault_of_plan, runner_of};
 use run_engine::TestRunnerBuildError;
 use run_input::read_plan_line;
 use run_output::Fault;
-use run_rerun::{RerunError, RunTests, run_passed};
+use run_rerun::{RerunError, RunTests, StoredRun, run_passed};
 use run_store_io::{StoreError, Stored, read_store};
 use std::alloc::Global;
 
@@ -84,7 +83,8 @@ fn refusal_in(alloc: Global, line: &[u8]) -> FoundError
 fn tests_in(alloc: Global, stored: &Stored) -> Result<RunTests, FoundError>
     requires plan { IsSome (plan_line_of stored.now.plan) }
     requires turns { length stored.now.turns < 2 ^ 32 }
-    ensures says { (told : Option (List ℕ)) → HasStored told stored.now → GivesTests told stored.now.plan result }
+    ensures says { (told : Option (List ℕ)) → HasStored told stored.now
+        → GivesTests told stored.now.plan stored.now.whole result }
     ensures quiet { fails_to_read result ≡ false }
 {
     match run_passed(alloc, stored) {
@@ -108,14 +108,14 @@ fn run_in(alloc: Global, stored: Stored) -> Result<StoredRun, FoundError>
     ensures quiet { fails_to_read result ≡ false }
 {
     let tests = tests_in(alloc, &stored);
-    let Stored {
-        plan,
-        turns,
-        whole: _,
-    } = stored;
+    let Stored { plan, turns, whole } = stored;
     drop(turns);
     match tests {
-        Ok(tests) => Ok(StoredRun { line: plan, tests }),
+        Ok(tests) => Ok(StoredRun {
+            line: plan,
+            tests,
+            whole,
+        }),
         Err(error) => Err(error),
     }
 }

@@ -1,17 +1,18 @@
 // What a chain of stores comes to, and its line.
 ghost use Rattle.std.specs.Prelude.{ℕ, ◌≡◌, ◌<◌, List, IfOk, IsSome, length, map, string_bytes};
 ghost use Rattle.run_input.specs.Input.{plan_line_of};
+ghost use Rattle.run_rerun_cli.specs.Chains.{newest_line};
 ghost use Rattle.run_rerun_cli.specs.Shelves.{doing_of, shelf_of};
 ghost use Rattle.run_rerun_cli.specs.Comes.{ChainComesTo, LeavesTo, LeavesSome};
 ghost use Rattle.run_rerun_cli.specs.Verdicts.{unwritten_status, verdict_status, verdict_text};
 
-use crate::chain::{Chain, ChainError, read_chain};
+use crate::chain::{ChainError, read_chain};
 use crate::faults::RerunFault;
 use crate::lines::rerun_fault_line;
 use crate::stores::Stores;
 use run_capture::{Mem, OutOfMemory, Text};
 use run_events::TestInstanceId;
-use run_rerun::{outstanding, rerun_plan};
+use run_rerun::{StoredRun, outstanding, rerun_plan};
 use std::alloc::Global;
 
 /// What a chain of stores comes to.
@@ -70,13 +71,23 @@ fn verdict_on(alloc: Global, line: &[u8], ids: &[TestInstanceId]) -> Mem<Verdict
     Ok(Verdict::Rerun(rerun_plan(alloc, line, ids)?))
 }
 
-// What the runs of a chain come to.
-fn verdict_in(alloc: Global, chain: &Chain) -> Mem<Verdict>
-    requires { IsSome (plan_line_of chain.now.line) }
-    ensures { IfOk result (LeavesTo chain.now) }
+// The plan line of the newest run; an empty one, where there is none.
+fn newest_line(runs: &[StoredRun]) -> &[u8]
+    ensures { result.now ≡ newest_line runs.now }
 {
-    let ids = outstanding(alloc, chain.tests.as_slice())?;
-    let verdict = verdict_on(alloc, chain.line.as_slice(), ids.as_slice())?;
+    match runs.last() {
+        Some(run) => run.line.as_slice(),
+        None => &[],
+    }
+}
+
+// What the runs of a chain come to.
+fn verdict_in(alloc: Global, runs: &[StoredRun]) -> Mem<Verdict>
+    requires { IsSome (plan_line_of (newest_line runs.now)) }
+    ensures { IfOk result (LeavesTo runs.now) }
+{
+    let ids = outstanding(alloc, runs)?;
+    let verdict = verdict_on(alloc, newest_line(runs), ids.as_slice())?;
     Ok(verdict)
 }
 
@@ -89,7 +100,7 @@ pub fn verdict_of<T: Stores>(alloc: Global, stores: &mut T, names: &[String]) ->
     ensures same { (n : List ℕ) → T.bytes stores.new n ≡ T.bytes stores.old n }
 {
     match read_chain(alloc, stores, names) {
-        Ok(chain) => verdict_in(alloc, &chain),
+        Ok(runs) => verdict_in(alloc, runs.as_slice()),
         Err(ChainError::Store { store, fault }) => Ok(Verdict::Faulty { store, fault }),
         Err(ChainError::OutOfMemory) => Err(OutOfMemory),
     }

@@ -12,8 +12,8 @@ loop-store-preserved g c =
     let names = map (λ w. string_bytes w) c.args.names.now in
     let name = c.as_str.result.now in
     record {
-      read = reads_next g.T.Stores c.args.stores.now l.stores c.take_store.new.stores names l.store name l.chain
-          c.take_store.new.chain l.invariant.read (l.invariant.same name)
+      read = reads_next g.T.Stores c.args.stores.now l.stores c.take_store.new.stores names l.store name l.runs
+          c.take_store.new.runs l.invariant.read (l.invariant.same name)
           (item_at (λ w. string_bytes w) c.args.names.now l.store c.index-names-store.result name
           c.loop-store-test.true c.index-names-store.is c.as_str.ensures.value) a.says a.fault a.did;
       same = λ n. a.same n ∙ l.invariant.same n;
@@ -30,6 +30,6 @@ returns-in-Err-clause-says g c =
     let name = c.as_str.result.now in
     subst (λ (e : ChainError). ReadsChain names (shelf_of t now end) (doing_of t now end) (Err e))
     (sym c.error_at.ensures)
-    (reads_fault t now l.stores end names l.store name l.chain c.in-Err.error l.invariant.read (l.invariant.same name)
+    (reads_fault t now l.stores end names l.store name l.runs c.in-Err.error l.invariant.read (l.invariant.same name)
     (item_at (λ w. string_bytes w) c.args.names.now l.store c.index-names-store.result name c.loop-store-test.true
     c.index-names-store.is c.as_str.ensures.value) a.says a.fault a.did)
