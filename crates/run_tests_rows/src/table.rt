@@ -9,13 +9,13 @@ pub struct Streams {
     pub failing_write: u64,
     /// So many bytes are moved at a time, at most.
     pub most: usize,
-    /// The input's first line is filled with spaces, until the input has so many bytes.
+    /// The input is filled until it has so many bytes: its first line with spaces, or a store with zeros at its end.
     pub filled: usize,
 }
 
 impl Streams {
-    // Streams that don't fail.
-    fn sound() -> Streams {
+    /// Streams that don't fail.
+    pub fn sound() -> Streams {
         Streams {
             failing_read: 0,
             failing_write: 0,

@@ -3,4 +3,5 @@
 mod gate;
 mod given;
 mod hearing;
+mod recorded;
 mod rows;

@@ -114,7 +114,7 @@ fn holds<X: Abort + Threads + Wait + Sync + Clock + Copy + Send + Drop>(
 }
 
 // A child that ends by itself.
-const QUIET: Act = Act {
+pub const QUIET: Act = Act {
     period: None,
     signals: 0,
     exit: ChildExit::Code(0),

@@ -1,5 +1,6 @@
 // Stores that are cut short or damaged, and what playing each of them answers, as one text.
-use crate::carried::{Answer, Program, answer_to};
+use crate::answer::Answer;
+use crate::programs::{Program, answer_to};
 use crate::table::Streams;
 use std::alloc::{AllocError, Global};
 use std::io;

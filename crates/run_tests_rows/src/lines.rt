@@ -1,28 +1,16 @@
-// What the top call answers to a row.
+// What the top call over lines answers to a row.
+use crate::answer::{Answer, input_of, numbers, wanting, words_of};
 use crate::host::host_of;
 use crate::table::{Row, Streams};
-use run_capture::{Blob, List, MemorySink, MemorySource, OutOfMemory};
+use run_capture::{Blob, MemorySink, MemorySource, OutOfMemory};
 use run_cli::{Ran, run};
 use run_hints::{KeptSource, LastLine, Seen, explain};
 use std::alloc::{AllocError, Global};
 use std::fs::Files;
+use std::io;
 use std::sync::Wait;
 use std::thread::Threads;
 use std::time::Clock;
-use std::{fs, io};
-
-/// A status, what was written, and what standard error is to say.
-#[derive(Drop)]
-pub struct Answer {
-    pub status: u8,
-    pub written: Vec<u8>,
-    pub said: String,
-}
-
-// Memory was wanting.
-fn wanting(_: OutOfMemory) -> io::Error {
-    io::Error::from(AllocError)
-}
 
 // The bytes of an input, its first line filled with spaces until all have so many bytes.
 fn filled(alloc: Global, bytes: &[u8], len: usize) -> Result<Vec<u8>, AllocError> {
@@ -39,38 +27,9 @@ fn filled(alloc: Global, bytes: &[u8], len: usize) -> Result<Vec<u8>, AllocError
     Ok(all)
 }
 
-// The input of a row.
-fn input_of<X: AllocGlobal + Files>(rt: &X, row: &Row) -> io::Result<Vec<u8>> {
-    if row.input == "-" {
-        return Ok(Vec::new(rt.alloc()));
-    }
-    let bytes = fs::read(rt, format!(in rt.alloc(); "{}.in", row.input)?)?;
-    Ok(filled(rt.alloc(), bytes.as_slice(), row.streams.filled)?)
-}
-
-// The words of a row.
-fn words_of(alloc: Global, row: &Row) -> Result<Vec<String>, AllocError> {
-    let mut words = Vec::new(alloc);
-    if row.words != "-" && row.words != "?" {
-        for word in row.words.split(',') {
-            words.push(String::from_str(alloc, word)?)?;
-        }
-    }
-    Ok(words)
-}
-
 // The words that are explained; none where one is not UTF-8.
 fn given<'a>(row: &Row, words: &'a [String]) -> Option<&'a [String]> {
     if row.words == "?" { None } else { Some(words) }
-}
-
-// The list of a number, or of none for 0.
-fn numbers(alloc: Global, number: u64) -> Result<List<u64>, OutOfMemory> {
-    let mut list = List::new();
-    if number > 0 {
-        list.push(alloc, number)?;
-    }
-    Ok(list)
 }
 
 fn source_of(alloc: Global, bytes: &[u8], streams: Streams) -> Result<MemorySource, OutOfMemory> {
@@ -85,15 +44,17 @@ fn sink_of(alloc: Global, room: usize, streams: Streams) -> Result<MemorySink, O
     MemorySink::new(alloc, room, streams.most.max(1), failing)
 }
 
-/// What the top call answers to a row, with room for somewhat more than the bytes that are wanted.
+/// What the top call answers to a row, with room for somewhat more than the bytes that are wanted, and what standard
+/// error is to say.
 pub fn answer_of<X: AllocGlobal + Files + Threads + Wait + Clock + Copy + Send + Sync>(
     rt: &X,
     row: &Row,
     wanted: usize,
-) -> io::Result<Answer> {
+) -> io::Result<(Answer, String)> {
     let alloc = rt.alloc();
-    let input = input_of(rt, row)?;
-    let words = words_of(alloc, row)?;
+    let bytes = input_of(rt, row.input)?;
+    let input = filled(alloc, bytes.as_slice(), row.streams.filled)?;
+    let words = words_of(alloc, row.words)?;
     let source = source_of(alloc, input.as_slice(), row.streams).map_err(wanting)?;
     let mut source = KeptSource::new(alloc, source);
     let sink = sink_of(alloc, wanted.saturating_add(4096), row.streams).map_err(wanting)?;
@@ -107,9 +68,5 @@ pub fn answer_of<X: AllocGlobal + Files + Threads + Wait + Clock + Copy + Send +
     let said = explain(alloc, given, status, Seen { input, last })?;
     let mut written = Vec::new(alloc);
     written.extend_from_slice(sink.into_sink().bytes())?;
-    Ok(Answer {
-        status,
-        written,
-        said,
-    })
+    Ok((Answer { status, written }, said))
 }

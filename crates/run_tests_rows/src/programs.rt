@@ -1,11 +1,12 @@
-// What the top calls answer.
+// What the top calls over stores, jobs and audits answer to a row.
+use crate::answer::{Answer, input_of, numbers, wanting, words_of};
 use crate::table::{Row, Streams};
-use run_capture::{Blob, List, MemorySink, MemorySource, OutOfMemory};
+use run_capture::{Blob, MemorySink, MemorySource, OutOfMemory};
 use run_cli::Ran;
 use run_jobs_cli::next_wave;
-use std::alloc::{AllocError, Global};
+use std::alloc::Global;
 use std::fs::Files;
-use std::{fs, io};
+use std::io;
 
 /// Whose top calls a table is of.
 #[derive(Clone, Copy)]
@@ -13,46 +14,6 @@ pub enum Program {
     Stores,
     Jobs,
     Audits,
-}
-
-/// A status, and what was written.
-#[derive(Drop)]
-pub struct Answer {
-    pub status: u8,
-    pub written: Vec<u8>,
-}
-
-/// Memory was wanting.
-pub fn wanting(_: OutOfMemory) -> io::Error {
-    io::Error::from(AllocError)
-}
-
-/// The words that a text has between its commas; none for `-`.
-pub fn words_of(alloc: Global, text: &str) -> Result<Vec<String>, AllocError> {
-    let mut words = Vec::new(alloc);
-    if text != "-" {
-        for word in text.split(',') {
-            words.push(String::from_str(alloc, word)?)?;
-        }
-    }
-    Ok(words)
-}
-
-/// The bytes of an input.
-pub fn input_of<X: AllocGlobal + Files>(rt: &X, name: &str) -> io::Result<Vec<u8>> {
-    if name == "-" {
-        return Ok(Vec::new(rt.alloc()));
-    }
-    fs::read(rt, format!(in rt.alloc(); "{name}.in")?)
-}
-
-/// The list of a number, or of none for 0.
-pub fn numbers(alloc: Global, number: u64) -> Result<List<u64>, OutOfMemory> {
-    let mut list = List::new();
-    if number > 0 {
-        list.push(alloc, number)?;
-    }
-    Ok(list)
 }
 
 /// Bytes, and zeros after them until they are so many.

@@ -1,5 +1,6 @@
 // Rows of reruns: chains of stores in memory.
-use crate::carried::{Answer, filled, numbers, wanting, words_of};
+use crate::answer::{Answer, numbers, wanting, words_of};
+use crate::programs::filled;
 use run_capture::{Blob, List, MemorySink, Text};
 use run_cli::Ran;
 use run_rerun_cli::{MemoryStore, MemoryStores, run};
