@@ -1,8 +1,10 @@
 -- A turn's line is read as that turn.
-use Rattle.std.proofs.Common.{◌≡◌, ◌∙◌, ℕ, ◌^◌, List, Some, option_and_then, refl, sym, ap, arith, lt-ltb}
+use Rattle.std.proofs.Common.{◌≡◌, ◌∙◌, ℕ, ◌^◌, List, Some, true, false, option_and_then, refl, sym, ap, arith, lt-ltb}
+use Rattle.std.specs.Str.{is_utf8}
 use Rattle.hex.specs.Hex.{IsBytes}
 use Rattle.serde_json.specs.Data.{Data}
-use Rattle.serde_json.specs.Written.{compact_text}
+use Rattle.serde_json.specs.Read.{read}
+use Rattle.serde_json.specs.Written.{has_float}
 use Rattle.run_capture.specs.declared.test_output.Stream.{Stream}
 use Rattle.run_commands.specs.declared.script_helpers.EnvInput.{EnvInput}
 use Rattle.run_commands.specs.declared.script_helpers.EnvInput.TheVariants.{Bytes, OpenFailed, ReadFailed}
@@ -20,8 +22,12 @@ use Rattle.run_output.specs.Turns.{turn_data, turn_text, turn_fields}
 use Rattle.run_text_laws.specs.Plain.{IsRead, IsPlain}
 use Rattle.run_text_laws.proofs.ObjectLemmas.{has_fields}
 use Rattle.run_text_laws.proofs.ReadLemmas.{all_read}
+use Rattle.run_turn_laws.specs.Order.{IsTurnText, text_in_order}
 use Rattle.run_turn_laws.specs.TurnLines.{IsU32, IsExit, IsEnvInput, IsKeyCode, IsTurn}
 use Rattle.run_turn_laws.proofs.FieldLemmas.{stream_again, signal_again, code_again, hex_again, signed_again}
+use Rattle.run_turn_laws.proofs.FlatLemmas.{turn_flat}
+use Rattle.run_turn_laws.proofs.ListedLemmas.{read_in_order}
+use Rattle.run_turn_laws.proofs.PermutedLemmas.{same_object}
 use Rattle.run_turn_laws.proofs.PlainLemmas.{turn_plain, turn_depth}
 
 -- an exit is read as it
@@ -96,17 +102,34 @@ again turns.Tick h = refl
 again turns.ReportCancel h = refl
 again turns.End h = refl
 
--- a value that is read back is the JSON value of its text
-json_value-text : (d : Data) → IsRead d → json_value (compact_text d) ≡ Some d
+-- a text that is UTF-8 and read as a value with no float has that JSON value
+json_value-text : (text : List ℕ) (d : Data) → is_utf8 text ≡ true → read text ≡ Some d → has_float d ≡ false
+    → json_value text ≡ Some d
 unfolding json_value
-json_value-text d h = rw (h.utf8, h.read, h.whole) refl
+json_value-text text d utf8 is whole = rw (utf8, is, whole) refl
+
+-- the object of a turn is read back
+turn_read : (t : Turn) → IsTurn t → IsRead (turn_data t)
+turn_read t h =
+    let plain : IsPlain (turn_data t) = (has_fields (turn_fields t)).plain (turn_plain t h) in
+    all_read (turn_data t) plain (omega (arith, turn_depth t))
 
 -- the line of each such turn is read as that turn
 pub lines_read : (t : Turn) → IsTurn t → turn_line_of (turn_text t) ≡ Some t
 lines_read t h =
-    let plain : IsPlain (turn_data t) = (has_fields (turn_fields t)).plain (turn_plain t h) in
-    let read : IsRead (turn_data t) = all_read (turn_data t) plain (omega (arith, turn_depth t)) in
-    ap (option_and_then turn_of) (json_value-text (turn_data t) read) ∙ again t h
+    let is = turn_read t h in
+    ap (option_and_then turn_of) (json_value-text (turn_text t) (turn_data t) is.utf8 is.read is.whole) ∙ again t h
+
+-- so is its line with its fields in any order
+pub lines_read_in_any_order : (t : Turn) (line : List ℕ) → IsTurn t → IsTurnText t line → turn_line_of line ≡ Some t
+lines_read_in_any_order t line h text =
+    let flat = turn_flat t in
+    let other = same_object (turn_fields t) text.fields (turn_plain t h) flat.shallow flat.apart text.permuted in
+    let is = read_in_order text.fields other.plain other.shallow in
+    let value : json_value (text_in_order text.fields) ≡ Some (turn_data t) =
+        json_value-text (text_in_order text.fields) (turn_data t) is.utf8 (is.read ∙ ap Some other.same)
+        (turn_read t h).whole in
+    ap turn_line_of (sym text.is) ∙ ap (option_and_then turn_of) value ∙ again t h
 
 -- there is one turn in a `Some`
 one : (t u : Turn) → Some t ≡ Some u → t ≡ u
