@@ -1,6 +1,7 @@
 mod FieldLemmas
 mod FlatLemmas
-mod ListedLemmas
+mod OrderLemmas
 mod PermutedLemmas
 mod PlainLemmas
+pub mod PrintedLemmas
 pub mod TurnLemmas

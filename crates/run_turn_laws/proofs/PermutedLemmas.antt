@@ -82,11 +82,11 @@ same_from Greater k l d e ms ns is p q rest h =
 same_from Equal k l d e ms ns is p q rest h =
     let key : k ≡ l = same_key k l is in
     let here : (j : List ℕ) → get_member j (member k d ms) ≡ get_member j (member k e ns) =
-        λ j. h j ∙ ap (λ i. get_member j (member i e ns)) (sym key) in
+    λ j. h j ∙ ap (λ i. get_member j (member i e ns)) (sym key) in
     let first : d ≡ e = one_value d e (sym (first_at k d ms) ∙ here k ∙ first_at k e ns) in
     let below : IsBelowAll k ns = subst (λ i. IsBelowAll i ns) (sym key) q.2 in
     let others : ms ≡ ns = rest (λ j. behind (slice_cmp nat_cmp j k) k j d ms ns refl p.2 below
-        (here j ∙ ap (λ x. get_member j (member k x ns)) (sym first))) in
+    (here j ∙ ap (λ x. get_member j (member k x ns)) (sym first))) in
     ap (member k d) others ∙ ap (λ x. member k x ns) first ∙ ap (λ i. member i e ns) key
 
 -- members in order that have the same at each key are the same
@@ -194,12 +194,13 @@ pub same_object : (xs ys : List Field) → ArePlainFields xs → AreShallow 0 xs
 same_object xs ys h low apart permuted =
     let back : IsPermutation ys xs = IsPermutation-sym xs ys permuted in
     let keys : IsDistinct bytes_eq (map key_of ys) =
-        IsDistinct-IsPermutation bytes_eq nat_list_eq_equiv.symm (map key_of xs) (map key_of ys)
-        (IsPermutation-map key_of xs ys permuted) apart in
-    let flat : AllByRecursion IsFlatField ys = recursion_from_All IsFlatField ys (All-permutation IsFlatField xs ys permuted
-        (All-from_recursion IsFlatField xs (each_flat xs h low))) in
+    IsDistinct-IsPermutation bytes_eq nat_list_eq_equiv.symm (map key_of xs) (map key_of ys)
+    (IsPermutation-map key_of xs ys permuted) apart in
+    let all : All IsFlatField ys =
+    All-permutation IsFlatField xs ys permuted (All-from_recursion IsFlatField xs (each_flat xs h low)) in
+    let flat : AllByRecursion IsFlatField ys = recursion_from_All IsFlatField ys all in
     let at : (k : List ℕ) → field_at k ys None ≡ field_at k xs None = λ k. agree _ _
-        (λ d e. has_same ys xs k d apart permuted e) (λ d e. has_same xs ys k d keys back e) in
+    (λ d e. has_same ys xs k d apart permuted e) (λ d e. has_same xs ys k d keys back e) in
     record {
       plain = plain_each ys flat;
       shallow = shallow_each ys flat;

@@ -26,7 +26,7 @@ use Rattle.run_turn_laws.specs.Order.{IsTurnText, text_in_order}
 use Rattle.run_turn_laws.specs.TurnLines.{IsU32, IsExit, IsEnvInput, IsKeyCode, IsTurn}
 use Rattle.run_turn_laws.proofs.FieldLemmas.{stream_again, signal_again, code_again, hex_again, signed_again}
 use Rattle.run_turn_laws.proofs.FlatLemmas.{turn_flat}
-use Rattle.run_turn_laws.proofs.ListedLemmas.{read_in_order}
+use Rattle.run_turn_laws.proofs.OrderLemmas.{read_in_order}
 use Rattle.run_turn_laws.proofs.PermutedLemmas.{same_object}
 use Rattle.run_turn_laws.proofs.PlainLemmas.{turn_plain, turn_depth}
 
@@ -127,8 +127,8 @@ lines_read_in_any_order t line h text =
     let other = same_object (turn_fields t) text.fields (turn_plain t h) flat.shallow flat.apart text.permuted in
     let is = read_in_order text.fields other.plain other.shallow in
     let value : json_value (text_in_order text.fields) ≡ Some (turn_data t) =
-        json_value-text (text_in_order text.fields) (turn_data t) is.utf8 (is.read ∙ ap Some other.same)
-        (turn_read t h).whole in
+    json_value-text (text_in_order text.fields) (turn_data t) is.utf8 (is.read ∙ ap Some other.same)
+    (turn_read t h).whole in
     ap turn_line_of (sym text.is) ∙ ap (option_and_then turn_of) value ∙ again t h
 
 -- there is one turn in a `Some`

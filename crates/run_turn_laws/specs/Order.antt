@@ -9,14 +9,14 @@ use Rattle.run_output.specs.Turns.{turn_fields}
 use Rattle.run_turn_laws.specs.TurnLines.{IsTurn}
 
 -- the fields that have a value, as members in the order in which they stand
-abbrev pub listed : List (List ℕ × Option Data) → Members
-listed [] = no_members
-listed ((key, None) ∷ fields) = listed fields
-listed ((key, Some value) ∷ fields) = member key value (listed fields)
+abbrev pub members_in_order : List (List ℕ × Option Data) → Members
+members_in_order [] = no_members
+members_in_order ((key, None) ∷ fields) = members_in_order fields
+members_in_order ((key, Some value) ∷ fields) = member key value (members_in_order fields)
 
 -- the text of an object of these fields in this order, with no space
 abbrev pub text_in_order : List (List ℕ × Option Data) → List ℕ
-text_in_order fields = compact_text (object (listed fields))
+text_in_order fields = compact_text (object (members_in_order fields))
 
 -- a line has each field of a turn once, in some order, and no space
 pub record IsTurnText (turn : Turn) (line : List ℕ) : Type 0 where

@@ -1,5 +1,5 @@
 -- Hex, a part after another.
-use Rattle.std.proofs.Common.{◌≡◌, refl, ap, ◌∙◌, sym, List, [], ◌∷◌, ◌++◌, append_assoc, ℕ}
+use Rattle.std.proofs.Common.{◌≡◌, refl, ap, ◌∙◌, List, [], ◌∷◌, ◌++◌, append_assoc, ℕ}
 use Rattle.hex.specs.Hex.{encode_with, encode_lower, lower_digits}
 
 -- the hex of two parts

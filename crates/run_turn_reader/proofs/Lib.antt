@@ -1,3 +1,4 @@
 mod ShapeLemmas
 mod HexLemmas
+mod NameLemmas
 mod PieceLemmas

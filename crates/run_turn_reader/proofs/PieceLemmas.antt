@@ -10,7 +10,7 @@ use Rattle.run_output.specs.Turns.{turn_text, stream_word}
 use Rattle.run_output.proofs.FrontsLemmas.{escape-hex}
 
 -- a string that needs no escape, and what stands behind it
-around : (text rest : List ℕ) → escape text ≡ text → quoted text ++ rest ≡ 34 ∷ (text ++ 34 ∷ rest)
+pub around : (text rest : List ℕ) → escape text ≡ text → quoted text ++ rest ≡ 34 ∷ (text ++ 34 ∷ rest)
 around text rest h = ap (λ t. 34 ∷ ((t ++ 34 ∷ []) ++ rest)) h ∙ ap (λ t. 34 ∷ t) (append_assoc text (34 ∷ []) rest)
 
 -- a piece, by what stands behind its hex

@@ -6,7 +6,7 @@ use run_capture::{Blob, Mem};
 use std::alloc::Global;
 
 // So many digits are read at a time, at most.
-const DIGITS: usize = 8192;
+const DIGITS: usize = 1024;
 
 // Whether digits are the hex of these bytes.
 fn is_hex_of(digits: &[u8], bytes: &[u8]) -> bool

@@ -59,3 +59,11 @@ pub(crate) fn last_number(bytes: &[u8]) -> Option<u32>
     let (value, rest) = number32(bytes)?;
     if are(rest, b"}") { Some(value) } else { None }
 }
+
+/// The number of 31 bits that ends an object.
+pub(crate) fn last_number31(bytes: &[u8]) -> Option<u32>
+    ensures { IfSome result (λ n. (n < 2 ^ 31) × (bytes.now ≡ decimal n ++ codes "}")) }
+{
+    let value = last_number(bytes)?;
+    if value < 1 << 31 { Some(value) } else { None }
+}

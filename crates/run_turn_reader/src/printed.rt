@@ -1,16 +1,18 @@
-// Lines in the form in which turns are printed.
+// Lines in the forms in which turns are often written.
 ghost use Rattle.std.specs.Prelude.{◌≡◌, Some, IfOk, IfSome};
 ghost use Rattle.run_input.specs.Input.{turn_line_of};
 ghost use Rattle.run_output.specs.Turns.{turn_text};
+ghost use Rattle.run_turn_laws.specs.Order.{IsTurnText};
 
+use crate::by_name::turn_by_name;
 use crate::front::after;
 use crate::shapes::{clock, exit, named, piece, started, stream_end};
 use run_capture::Mem;
 use run_events::Turn;
-use run_turn_laws::{known_turn, turn_lines_are_read};
+use run_turn_laws::{known_turn, turn_lines_are_read_in_any_order};
 use std::alloc::Global;
 
-// The turn whose line this is, by its first key.
+// The turn whose line, as it is printed, this is, by its first key.
 fn turn_by_key(alloc: Global, line: &[u8]) -> Mem<Option<Turn>>
     ensures { IfOk result (λ found. IfSome found (λ t. turn_text t ≡ line.now)) }
 {
@@ -31,16 +33,27 @@ fn turn_by_key(alloc: Global, line: &[u8]) -> Mem<Option<Turn>>
     }
 }
 
-/// The turn whose line this is, as `turn_line` prints it, without a line feed: of the turns that a run has often. Any
-/// other line, and another spelling of such a line, has none here.
+// The same of either form.
+fn turn_in_form(alloc: Global, line: &[u8]) -> Mem<Option<Turn>>
+    ensures { IfOk result (λ found. IfSome found (λ t. IsTurnText t line.now)) }
+{
+    match turn_by_key(alloc, line)? {
+        Some(turn) => Ok(Some(turn)),
+        None => turn_by_name(alloc, line),
+    }
+}
+
+/// The turn whose line this is, without a line feed: as `turn_line` prints it, or with the turn's name first, then its
+/// unit, then a stream, then the rest; of the turns that a run has often. Any other line, and another spelling of such
+/// a line, has none here.
 pub fn printed_turn(alloc: Global, line: &[u8]) -> Mem<Option<Turn>>
-    ensures text { IfOk result (λ found. IfSome found (λ t. turn_text t ≡ line.now)) }
+    ensures text { IfOk result (λ found. IfSome found (λ t. IsTurnText t line.now)) }
     ensures read { IfOk result (λ found. IfSome found (λ t. turn_line_of line.now ≡ Some t)) }
 {
-    let found = turn_by_key(alloc, line)?;
+    let found = turn_in_form(alloc, line)?;
     if let Some(turn) = &found {
         known_turn(turn);
     }
-    turn_lines_are_read();
+    turn_lines_are_read_in_any_order();
     Ok(found)
 }

@@ -4,7 +4,7 @@ use run_events::Turn;
 use run_input::{LineError, ReadTurn, read_turn_line};
 use std::alloc::Global;
 
-/// Reads turn lines: those in the form in which they are printed without a JSON value.
+/// Reads turn lines: those in the forms in which they are often written without a JSON value.
 #[derive(Clone, Copy, Drop)]
 pub struct TurnLines;
 

@@ -13,9 +13,9 @@ use run_capture::{Blob, Mem, Stream};
 use run_events::{ChildExit, Turn};
 use std::alloc::Global;
 
-// The stream with whose word bytes begin, and what stands behind it.
+/// The stream with whose word bytes begin, and what stands behind it.
 #[tactic(auto, using(crate::proofs::ShapeLemmas::is_combined, crate::proofs::ShapeLemmas::is_stdout, crate::proofs::ShapeLemmas::is_stderr))]
-fn stream(bytes: &[u8]) -> Option<(Stream, &[u8])>
+pub(crate) fn stream(bytes: &[u8]) -> Option<(Stream, &[u8])>
     ensures { IfSome result (λ r. bytes.now ≡ stream_word r.0 ++ r.1.now) }
 {
     if let Some(rest) = after(bytes, b"combined") {
@@ -37,8 +37,8 @@ pub(crate) fn started(bytes: &[u8]) -> Option<Turn>
     Some(Turn::Started { unit, pid })
 }
 
-// The turn of an exit with a code that isn't below 0.
-fn exit_with(unit: u32, code: u32) -> Turn
+/// The turn of an exit with a code that isn't below 0.
+pub(crate) fn exit_with(unit: u32, code: u32) -> Turn
     requires { code < 2 ^ 31 }
     ensures { result ≡ Exit unit (Code (pos code)) }
 {
@@ -86,8 +86,8 @@ fn piece_end(bytes: &[u8]) -> Option<(Stream, u32)>
     Some((stream, unit))
 }
 
-// What a slice of bytes holds are bytes.
-fn are_bytes(bytes: &[u8])
+/// What a slice of bytes holds are bytes.
+pub(crate) fn are_bytes(bytes: &[u8])
     ensures { IsBytes bytes.now }
 {}
 

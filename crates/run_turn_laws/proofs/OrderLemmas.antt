@@ -1,12 +1,11 @@
 -- The text of fields in the order in which they stand is read as the object of these fields.
-use Rattle.std.proofs.Common.{◌≡◌, ◌∙◌, ℕ, suc, ◌≤◌, Bool, true, false, List, [], ◌∷◌, Option, Some, None, pos, negsuc}
+use Rattle.std.proofs.Common.{◌≡◌, ◌∙◌, ℕ, ◌≤◌, Bool, true, false, List, [], ◌∷◌, Option, Some, None, pos, negsuc}
 use Rattle.std.proofs.Common.{IsUtf8, option_map, option_and_then, refl, sym, ap, arith, append-nil}
 use Rattle.std.proofs.lemmas.Fmt.{IsAscii-decimal, IsAscii-signed}
 use Rattle.std.proofs.lemmas.Str.{IsUtf8-append, IsUtf8-nil, IsUtf8-from_ascii, is_utf8-from_IsUtf8}
 use Rattle.std.specs.Str.{is_utf8}
 use Rattle.json.specs.Json as json
-use Rattle.json.specs.Lex.{tokens}
-use Rattle.json.specs.Print.{IsNumber, token_text}
+use Rattle.json.specs.Print.{token_text}
 use Rattle.json.specs.Token.{Token}
 use Rattle.json.specs.Tree as tree
 use Rattle.json.proofs.Printed.Decimals.{IsNumber-decimal, IsNumber-signed_decimal}
@@ -14,16 +13,15 @@ use Rattle.json.proofs.Printed.Tokens.{tokens-print}
 use Rattle.json.proofs.Printed.Trees.{value-json_tokens, ArePrintable-json_tokens}
 use Rattle.json.proofs.Printed.Utf8.{IsUtf8-are_ascii, IsUtf8-quoted, IsUtf8-boolean}
 use Rattle.serde_json.specs.Data.{Num, unsigned, negative, float, Data, null, boolean, number, string, array, object}
-use Rattle.serde_json.specs.Data.{Members, no_members, member, put, depth}
-use Rattle.serde_json.specs.Read.{read, max_depth, of_json, of_members, number_of}
-use Rattle.serde_json.specs.Written.{compact_text, members_text, outline, members_outline, number_text, comma_if}
-use Rattle.serde_json.specs.Written.{has_float}
+use Rattle.serde_json.specs.Data.{Members, no_members, put, depth}
+use Rattle.serde_json.specs.Read.{read, max_depth, of_json, of_members}
+use Rattle.serde_json.specs.Written.{compact_text, members_text, outline, members_outline, comma_if}
 use Rattle.serde_json.proofs.Numbers.{number_of-decimal, number_of-negative}
 use Rattle.serde_json.proofs.Texts.{print-outline}
 use Rattle.run_output.specs.Fields.{put_all, object_of}
 use Rattle.run_text_laws.specs.Objects.{ArePlainFields, AreShallow}
 use Rattle.run_text_laws.specs.Plain.{IsWholeNumber, IsPlain}
-use Rattle.run_turn_laws.specs.Order.{listed, text_in_order}
+use Rattle.run_turn_laws.specs.Order.{members_in_order, text_in_order}
 
 -- what the text of a value is: it is read as that value, its number is one of JSON, and it is UTF-8
 record IsText (d : Data) : Type 0 where
@@ -65,17 +63,17 @@ text_is (object ms) h low = absurd (omega (arith, low))
 
 -- members are read one after another, each put to those before it
 members_again : (fields : List (List ℕ × Option Data)) (found : Members) → ArePlainFields fields → AreShallow 0 fields
-    → of_members (members_outline (listed fields)) found ≡ Some (put_all fields found)
+    → of_members (members_outline (members_in_order fields)) found ≡ Some (put_all fields found)
 members_again [] found h low = refl
 members_again ((key, None) ∷ fields) found h low = members_again fields found h.2 low.1
 members_again ((key, Some d) ∷ fields) found h low =
-    ap (option_and_then (λ d. of_members (members_outline (listed fields)) (put key d found)))
+    ap (option_and_then (λ d. of_members (members_outline (members_in_order fields)) (put key d found)))
     (text_is d h.1 low.0).again
     ∙ members_again fields (put key d found) h.2 low.1
 
 -- their numbers are numbers of JSON
 members_numbers : (fields : List (List ℕ × Option Data)) → ArePlainFields fields → AreShallow 0 fields
-    → tree.MembersHaveNumbers (members_outline (listed fields))
+    → tree.MembersHaveNumbers (members_outline (members_in_order fields))
 members_numbers [] h low = tt
 members_numbers ((key, None) ∷ fields) h low = members_numbers fields h.2 low.1
 members_numbers ((key, Some d) ∷ fields) h low =
@@ -83,7 +81,7 @@ members_numbers ((key, Some d) ∷ fields) h low =
 
 -- they nest nothing
 members_flat : (fields : List (List ℕ × Option Data)) → ArePlainFields fields → AreShallow 0 fields
-    → tree.members_depth (members_outline (listed fields)) ≡ 0
+    → tree.members_depth (members_outline (members_in_order fields)) ≡ 0
 members_flat [] h low = refl
 members_flat ((key, None) ∷ fields) h low = members_flat fields h.2 low.1
 members_flat ((key, Some d) ∷ fields) h low =
@@ -100,7 +98,7 @@ comma_utf8 false = IsUtf8-nil
 
 -- their text is UTF-8
 members_utf8 : (later : Bool) (fields : List (List ℕ × Option Data)) → ArePlainFields fields → AreShallow 0 fields
-    → IsUtf8 (members_text later (listed fields))
+    → IsUtf8 (members_text later (members_in_order fields))
 members_utf8 later [] h low = IsUtf8-are_ascii (125 ∷ []) refl
 members_utf8 later ((key, None) ∷ fields) h low = members_utf8 later fields h.2 low.1
 members_utf8 later ((key, Some d) ∷ fields) h low =
@@ -113,10 +111,10 @@ abbrev whole : Option (json.Json × List Token) → Option Data
 whole o = option_and_then of_json (option_and_then (λ p. json.if_last p.0 p.1) o)
 
 -- their object is read as the object of the fields
-read_listed : (fields : List (List ℕ × Option Data)) → ArePlainFields fields → AreShallow 0 fields
+read_as_object : (fields : List (List ℕ × Option Data)) → ArePlainFields fields → AreShallow 0 fields
     → read (text_in_order fields) ≡ Some (object_of fields)
-read_listed fields h low =
-    let d : Data = object (listed fields) in
+read_as_object fields h low =
+    let d : Data = object (members_in_order fields) in
     let ts = tree.json_tokens (outline d) in
     ap read (sym (print-outline d))
     ∙ ap (λ us. whole (json.value max_depth us))
@@ -133,5 +131,5 @@ pub read_in_order : (fields : List (List ℕ × Option Data)) → ArePlainFields
     → IsReadInOrder fields
 read_in_order fields h low = record {
   utf8 = is_utf8-from_IsUtf8 _ (after_byte 123 _ (IsUtf8-are_ascii (123 ∷ []) refl) (members_utf8 false fields h low));
-  read = read_listed fields h low;
+  read = read_as_object fields h low;
 }
