@@ -33,13 +33,33 @@ fn turn_by_key(alloc: Global, line: &[u8]) -> Mem<Option<Turn>>
     }
 }
 
-// The same of either form.
-fn turn_in_form(alloc: Global, line: &[u8]) -> Mem<Option<Turn>>
+// The same, as a line of the turn.
+fn turn_as_printed(alloc: Global, line: &[u8]) -> Mem<Option<Turn>>
     ensures { IfOk result (λ found. IfSome found (λ t. IsTurnText t line.now)) }
 {
     match turn_by_key(alloc, line)? {
         Some(turn) => Ok(Some(turn)),
-        None => turn_by_name(alloc, line),
+        None => Ok(None),
+    }
+}
+
+// Whether a line begins as one of those with the turn's name first that are printed otherwise.
+fn has_name_first(line: &[u8]) -> bool {
+    match after(line, b"{\"turn\":\"") {
+        Some([b's' | b'p' | b'c', ..]) => true,
+        Some([b'e', b'x', ..]) => true,
+        _ => false,
+    }
+}
+
+// The turn whose line this is, in either form.
+fn turn_in_form(alloc: Global, line: &[u8]) -> Mem<Option<Turn>>
+    ensures { IfOk result (λ found. IfSome found (λ t. IsTurnText t line.now)) }
+{
+    if has_name_first(line) {
+        turn_by_name(alloc, line)
+    } else {
+        turn_as_printed(alloc, line)
     }
 }
 
