@@ -1,4 +1,5 @@
 // A sink that remembers its last line.
+use memchr::memrchr;
 use run_capture::{Failed, Sink};
 use std::alloc::Global;
 
@@ -22,7 +23,7 @@ impl Line {
             Some(_) => (bytes, false),
             None => return,
         };
-        let begin = text.iter().rposition(|byte| *byte == b'\n');
+        let begin = memrchr(b'\n', text);
         if self.is_ended || begin.is_some() {
             self.bytes.clear();
             self.is_kept = true;
