@@ -5,11 +5,11 @@ use crate::whole::rows::QUIET;
 use run_capture::{List, MemorySink};
 use run_events::ReporterEvent;
 use run_keep::MemoryHalter;
-use run_record::{RecordOutcome, run_recorded};
+use run_record::{RecordOutcome, Recorded, run_recorded};
 use run_report::Listener;
 use run_store_io::read_stored;
 use run_whole::Around;
-use run_whole_cli::WholeLeft;
+use run_whole_cli::{Ran, WholeLeft};
 use std::alloc::Global;
 use std::process::Abort;
 use std::sync::Wait;
@@ -76,12 +76,23 @@ fn is_recorded<X: Abort + Threads + Wait + Sync + Clock + Copy + Send + Drop>(
     };
     let (lines, store) = (sink(&rt, alloc), sink(&rt, alloc));
     let line = PLAN.as_bytes();
-    let run = run_recorded(&rt, alloc, line, lines, store, Heedless, &mut host, around);
-    let turns = taken(&run.left);
-    matches!(run.outcome, RecordOutcome::Recorded)
-        && run.ran.status == 0
+    let Recorded {
+        ran,
+        own,
+        outcome,
+        store,
+        left,
+        report,
+    } = run_recorded(&rt, alloc, line, lines, store, Heedless, &mut host, around);
+    drop(report);
+    let Ran { status, sink } = ran;
+    drop(sink);
+    let turns = taken(&left);
+    matches!(outcome, RecordOutcome::Recorded)
+        && status == 0
+        && own == 0
         && turns.is_some()
-        && stored(alloc, run.store.bytes()) == turns
+        && stored(alloc, store.bytes()) == turns
 }
 
 #[test]
