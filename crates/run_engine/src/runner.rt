@@ -21,7 +21,7 @@ use crate::course::{Stop, take_all};
 use crate::errors::TestRunnerExecuteErrors;
 use crate::lean::LeanRun;
 use crate::run::Run;
-use jiff::Timestamp;
+use jiff_core::Timestamp;
 use run_capture::{Mem, Whole};
 use run_events::{
     Children, EventLog, InputHandlerKind, InputHandlerStatus, Reporter, RunOutcome, Settings, Turn,

@@ -5,7 +5,6 @@ use run_capture::{Boxed, Duplicate, List, Mem, Stream, Text};
 use std::alloc::Global;
 
 /// A child is to be started.
-#[derive(Debug)]
 pub struct StartAsk {
     pub unit: u32,
     /// Which attempt, from 1.
@@ -59,7 +58,7 @@ impl Duplicate for StartAsk {
 }
 
 /// A signal is to be sent to a unit's child, or to its process group.
-#[derive(Clone, Copy, Debug, Drop)]
+#[derive(Clone, Copy, Drop)]
 pub struct SignalAsk {
     pub unit: u32,
     pub signal: ChildSignal,
@@ -67,7 +66,7 @@ pub struct SignalAsk {
 }
 
 /// A request to the outside.
-#[derive(Debug, Drop)]
+#[derive(Drop)]
 pub enum Ask {
     Start(Boxed<StartAsk>),
     Signal(SignalAsk),

@@ -8,7 +8,7 @@ use std::alloc::Global;
 use std::marker::Model;
 
 /// The asks, each with its turn, in order.
-#[derive(Debug, Drop)]
+#[derive(Drop)]
 pub struct AskList {
     asks: List<(u64, Ask)>,
 }

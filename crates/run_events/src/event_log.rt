@@ -10,7 +10,7 @@ use std::convert::Infallible;
 use std::marker::Model;
 
 /// The events told, in order. It never refuses one.
-#[derive(Debug, Drop)]
+#[derive(Drop)]
 pub struct EventLog {
     events: List<ReporterEvent>,
 }

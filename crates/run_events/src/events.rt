@@ -13,7 +13,6 @@ use std::alloc::Global;
 use uuid::Uuid;
 
 /// The run started.
-#[derive(Debug)]
 pub struct RunStarted {
     pub run_id: Uuid,
     /// How many tests the plan has.
@@ -53,7 +52,7 @@ impl Duplicate for RunStarted {
 }
 
 /// A sub-run of a stress run ended. Its own time is in nanoseconds.
-#[derive(Clone, Copy, Debug, Drop)]
+#[derive(Clone, Copy, Drop)]
 pub struct SubRunFinished {
     pub progress: StressProgress,
     pub sub_elapsed: u64,
@@ -61,7 +60,7 @@ pub struct SubRunFinished {
 }
 
 /// A test started.
-#[derive(Debug, Drop)]
+#[derive(Drop)]
 pub struct TestStarted {
     pub start: TestStart,
     pub running: u32,
@@ -80,7 +79,7 @@ impl Duplicate for TestStarted {
 }
 
 /// An attempt of a test failed, and a further one follows.
-#[derive(Debug, Drop)]
+#[derive(Drop)]
 pub struct AttemptFailedWillRetry {
     pub failed: AttemptFailed,
     pub running: u32,
@@ -97,7 +96,7 @@ impl Duplicate for AttemptFailedWillRetry {
 }
 
 /// A further attempt of a test started.
-#[derive(Debug, Drop)]
+#[derive(Drop)]
 pub struct RetryStarted {
     pub retry: TestRetry,
     pub running: u32,
@@ -114,7 +113,7 @@ impl Duplicate for RetryStarted {
 }
 
 /// A test finished.
-#[derive(Debug, Drop)]
+#[derive(Drop)]
 pub struct TestFinished {
     pub finish: TestFinish,
     pub running: u32,
@@ -133,7 +132,7 @@ impl Duplicate for TestFinished {
 }
 
 /// An information round started, with so many units asked.
-#[derive(Clone, Copy, Debug, Drop)]
+#[derive(Clone, Copy, Drop)]
 pub struct InfoStarted {
     pub total: u32,
     pub running: u32,
@@ -141,7 +140,6 @@ pub struct InfoStarted {
 }
 
 /// A unit answered, as the one with this index, from 0, of so many.
-#[derive(Debug)]
 pub struct InfoAnswered {
     pub response: InfoResponse,
     pub index: u32,
@@ -171,14 +169,14 @@ impl Duplicate for InfoAnswered {
 }
 
 /// Counts as they are.
-#[derive(Clone, Copy, Debug, Drop)]
+#[derive(Clone, Copy, Drop)]
 pub struct InputEntered {
     pub running: u32,
     pub stats: RunStats,
 }
 
 /// The run begins to be cancelled, for the reason in the statistics.
-#[derive(Clone, Copy, Debug, Drop)]
+#[derive(Clone, Copy, Drop)]
 pub struct RunCancelled {
     pub running: u32,
     pub scripts_running: u32,
@@ -186,21 +184,21 @@ pub struct RunCancelled {
 }
 
 /// The run was stopped, or goes on.
-#[derive(Clone, Copy, Debug, Drop)]
+#[derive(Clone, Copy, Drop)]
 pub struct JobControlled {
     pub running: u32,
     pub scripts_running: u32,
 }
 
 /// The statistics of a run that is over: its own, or in a stress run those of its sub-runs.
-#[derive(Clone, Copy, Debug, Drop)]
+#[derive(Clone, Copy, Drop)]
 pub enum RunFinishedStats {
     Single(RunStats),
     Stress(StressRunStats),
 }
 
 /// The tests that were expected and not seen: the first of them, in order, and how many they are.
-#[derive(Debug, Drop)]
+#[derive(Drop)]
 pub struct TestsNotSeen {
     pub not_seen: List<TestInstanceId>,
     pub total_not_seen: u64,
@@ -217,7 +215,7 @@ impl Duplicate for TestsNotSeen {
 }
 
 /// The run finished.
-#[derive(Debug, Drop)]
+#[derive(Drop)]
 pub struct RunFinished {
     pub stats: RunFinishedStats,
     /// In a rerun alone.
@@ -235,7 +233,6 @@ impl Duplicate for RunFinished {
 }
 
 /// What an event says.
-#[derive(Debug)]
 pub enum TestEventKind {
     RunStarted(RunStarted),
     StressSubRunStarted(StressProgress),
@@ -291,7 +288,7 @@ impl Drop for TestEventKind {
 }
 
 /// An event of the run, at a moment of its clock and after so much active time, in nanoseconds.
-#[derive(Debug, Drop)]
+#[derive(Drop)]
 pub struct TestEvent {
     pub clock: u64,
     pub elapsed: u64,
@@ -310,7 +307,7 @@ impl Duplicate for TestEvent {
 }
 
 /// What a reporter is told.
-#[derive(Debug, Drop)]
+#[derive(Drop)]
 pub enum ReporterEvent {
     /// A display wants to draw anew.
     Tick,

@@ -8,7 +8,7 @@ use run_commands::SetupScriptOutputError;
 use std::alloc::Global;
 
 /// How long something has been waited for and how long it still is, in nanoseconds.
-#[derive(Clone, Copy, Debug, Drop)]
+#[derive(Clone, Copy, Drop)]
 pub struct Waiting {
     pub waiting: u64,
     /// The period less the time waited, at least 0.
@@ -16,7 +16,7 @@ pub struct Waiting {
 }
 
 /// What a unit is doing. Times are in nanoseconds; `time` is that of its attempt so far.
-#[derive(Clone, Copy, Debug, Drop)]
+#[derive(Clone, Copy, Drop)]
 pub enum UnitState {
     /// Its child runs.
     Running {
@@ -59,7 +59,7 @@ pub enum UnitState {
 }
 
 /// Which unit answers.
-#[derive(Debug, Drop)]
+#[derive(Drop)]
 pub enum InfoSubject {
     /// A test, at this attempt of so many at most.
     Test {
@@ -88,7 +88,7 @@ impl Duplicate for InfoSubject {
 }
 
 /// A unit's answer: what it is doing, and what its child wrote so far.
-#[derive(Debug, Drop)]
+#[derive(Drop)]
 pub struct InfoResponse {
     pub subject: InfoSubject,
     pub state: UnitState,

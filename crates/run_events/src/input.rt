@@ -3,14 +3,14 @@ ghost use Rattle.std.specs.Prelude.{◌≡◌};
 ghost use Rattle.run_events.specs.Hearing.{heard_key};
 
 /// Which key it is.
-#[derive(Clone, Copy, Debug, Drop)]
+#[derive(Clone, Copy, Drop)]
 pub enum KeyCode {
     Enter,
     Char(char),
 }
 
 /// A key that was pressed or let go.
-#[derive(Clone, Copy, Debug, Drop)]
+#[derive(Clone, Copy, Drop)]
 pub struct Key {
     pub code: KeyCode,
     /// Whether a modifier was held, as control.
@@ -29,7 +29,7 @@ pub enum InputHandlerKind {
 }
 
 /// Whether a run hears keys.
-#[derive(Clone, Copy, Debug, Drop)]
+#[derive(Clone, Copy, Drop)]
 pub enum InputHandlerStatus {
     /// It does, and this one asks for information.
     Enabled { info_char: char },
@@ -37,7 +37,7 @@ pub enum InputHandlerStatus {
 }
 
 /// What a key is to a run that hears it.
-#[derive(Clone, Copy, Debug, Drop)]
+#[derive(Clone, Copy, Drop)]
 pub enum InputEvent {
     /// It asks what the tests are doing.
     Info,

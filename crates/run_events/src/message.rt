@@ -8,7 +8,7 @@ use run_capture::{Boxed, Duplicate, List, Mem, Text};
 use std::alloc::Global;
 
 /// A test, as its messages and events name it. The unit's number isn't printed.
-#[derive(Debug, Drop)]
+#[derive(Drop)]
 pub struct TestUnit {
     pub unit: u32,
     pub id: TestInstanceId,
@@ -28,7 +28,7 @@ impl Duplicate for TestUnit {
 }
 
 /// A setup script, as its messages and events name it.
-#[derive(Debug, Drop)]
+#[derive(Drop)]
 pub struct ScriptUnit {
     pub unit: u32,
     pub id: Text,
@@ -57,7 +57,6 @@ impl Duplicate for ScriptUnit {
 }
 
 /// A script is about to start.
-#[derive(Debug)]
 pub struct ScriptStart {
     pub script: ScriptUnit,
     pub command: List<Text>,
@@ -81,7 +80,6 @@ impl Duplicate for ScriptStart {
 }
 
 /// A script has run for so long, in nanoseconds, and is ended for it or not.
-#[derive(Debug)]
 pub struct ScriptSlow {
     pub script: ScriptUnit,
     pub elapsed_slow: u64,
@@ -111,7 +109,6 @@ impl Duplicate for ScriptSlow {
 }
 
 /// A script is done.
-#[derive(Debug)]
 pub struct ScriptFinish {
     pub script: ScriptUnit,
     pub status: SetupScriptExecuteStatus,
@@ -135,7 +132,6 @@ impl Duplicate for ScriptFinish {
 }
 
 /// A test is about to start, in this slot.
-#[derive(Debug)]
 pub struct TestStart {
     pub test: TestUnit,
     pub command: List<Text>,
@@ -166,7 +162,6 @@ impl Duplicate for TestStart {
 }
 
 /// An attempt of a test has run for so long, in nanoseconds, and is ended for it or not.
-#[derive(Debug)]
 pub struct TestSlow {
     pub test: TestUnit,
     /// Which attempt, from 1.
@@ -204,7 +199,6 @@ impl Duplicate for TestSlow {
 }
 
 /// An attempt of a test failed, and the next one comes after this delay, in nanoseconds.
-#[derive(Debug)]
 pub struct AttemptFailed {
     pub test: TestUnit,
     pub status: ExecuteStatus,
@@ -234,7 +228,6 @@ impl Duplicate for AttemptFailed {
 }
 
 /// A further attempt of a test is about to start.
-#[derive(Debug)]
 pub struct TestRetry {
     pub start: TestStart,
     pub attempt: u32,
@@ -264,7 +257,6 @@ impl Duplicate for TestRetry {
 }
 
 /// A test is done, after these attempts. What a pass after a failed attempt counts as isn't printed.
-#[derive(Debug)]
 pub struct TestFinish {
     pub test: TestUnit,
     pub statuses: List<ExecuteStatus>,
@@ -294,7 +286,6 @@ impl Duplicate for TestFinish {
 }
 
 /// A test doesn't match, and is skipped for this reason.
-#[derive(Debug)]
 pub struct TestSkip {
     pub test: TestUnit,
     pub reason: Text,
@@ -315,7 +306,7 @@ impl Duplicate for TestSkip {
 }
 
 /// A message of a unit to the dispatcher. All messages stand in one queue.
-#[derive(Debug, Drop)]
+#[derive(Drop)]
 pub enum Message {
     ScriptStart(Boxed<ScriptStart>),
     ScriptSlow(Boxed<ScriptSlow>),

@@ -12,7 +12,7 @@ pub enum RunStep {
 }
 
 /// The summary of a run's statistics at its end.
-#[derive(Clone, Copy, Debug, Drop)]
+#[derive(Clone, Copy, Drop)]
 pub enum FinalRunStats {
     Success,
     NoTestsRun,

@@ -6,7 +6,7 @@ use crate::{
     FlakyResult, InputHandlerKind, LeakTimeoutResult, RetryPolicy, RunMode, SignalHandlerKind,
     SlowTimeoutResult,
 };
-use jiff::Timestamp;
+use jiff_core::Timestamp;
 use run_capture::{Duplicate, List, Mem, Text};
 use run_commands::{BuildPlatform, TargetRunner, VersionEnvVars};
 use std::alloc::Global;
@@ -27,7 +27,7 @@ impl Duplicate for TestInstanceId {
 }
 
 /// A slot within a test's group: the least free number from 0, and the group's name.
-#[derive(Debug, Drop)]
+#[derive(Drop)]
 pub struct GroupSlot {
     pub slot: u32,
     pub name: Text,
@@ -44,7 +44,7 @@ impl Duplicate for GroupSlot {
 }
 
 /// The slot that a test holds while it runs: the least free number from 0, and the same within its group.
-#[derive(Debug, Drop)]
+#[derive(Drop)]
 pub struct TestSlotAssignment {
     pub global: u32,
     /// In a group alone.
@@ -62,7 +62,7 @@ impl Duplicate for TestSlotAssignment {
 }
 
 /// Tests that share a limit on how much of them runs at a time.
-#[derive(Debug, Drop)]
+#[derive(Drop)]
 pub struct Group {
     pub name: Text,
     /// The greatest sum of weights that may run at a time.
@@ -80,7 +80,7 @@ impl Duplicate for Group {
 }
 
 /// When an attempt is slow, and what comes of that. Times are in nanoseconds.
-#[derive(Clone, Copy, Debug, Drop)]
+#[derive(Clone, Copy, Drop)]
 pub struct SlowTimeout {
     /// After each such time the attempt is reported slow.
     pub period: u64,
@@ -93,14 +93,14 @@ pub struct SlowTimeout {
 }
 
 /// How long open descriptors of an ended child are waited for, in nanoseconds, and what a leak counts as.
-#[derive(Clone, Copy, Debug, Drop)]
+#[derive(Clone, Copy, Drop)]
 pub struct LeakTimeout {
     pub period: u64,
     pub result: LeakTimeoutResult,
 }
 
 /// A setup script of the plan.
-#[derive(Debug, Drop)]
+#[derive(Drop)]
 pub struct PlanScript {
     pub id: Text,
     /// The program and its arguments.
@@ -130,7 +130,7 @@ impl Duplicate for PlanScript {
 }
 
 /// A test of the plan.
-#[derive(Debug, Drop)]
+#[derive(Drop)]
 pub struct PlanTest {
     pub id: TestInstanceId,
     /// The program and its arguments.
@@ -181,7 +181,6 @@ impl Duplicate for PlanTest {
 }
 
 /// What a run is to its children and to whoever reads its events.
-#[derive(Debug)]
 pub struct RunHead {
     pub run_id: Uuid,
     /// The moment at which the run's clock is 0: the start of 1970 where none is given.
@@ -227,7 +226,7 @@ impl Duplicate for RunHead {
 }
 
 /// Which signals and keys a run hears.
-#[derive(Clone, Copy, Debug, Drop)]
+#[derive(Clone, Copy, Drop)]
 pub struct Hearing {
     pub signals: SignalHandlerKind,
     pub input: InputHandlerKind,
@@ -236,7 +235,6 @@ pub struct Hearing {
 }
 
 /// What is to be run. With S scripts, script i is unit i, and the test at place j is unit S + j.
-#[derive(Debug)]
 pub struct Plan {
     pub head: RunHead,
     pub hearing: Hearing,
@@ -265,7 +263,7 @@ impl Drop for Plan {
 }
 
 // What a plan lists.
-#[derive(Debug, Drop)]
+#[derive(Drop)]
 struct PlanLists {
     groups: List<Group>,
     scripts: List<PlanScript>,

@@ -1,7 +1,7 @@
 // What the dispatcher asks of a unit, and how a unit ends its child.
 
 /// Why a unit is to end its child.
-#[derive(Clone, Copy, Debug, Drop)]
+#[derive(Clone, Copy, Drop)]
 pub enum ShutdownRequest {
     Interrupt,
     Term,
@@ -14,7 +14,7 @@ pub enum ShutdownRequest {
 }
 
 /// A request of the dispatcher to a unit. Each unit has a line of its own.
-#[derive(Clone, Copy, Debug, Drop)]
+#[derive(Clone, Copy, Drop)]
 pub enum Request {
     /// Stop the child, in this round.
     Stop { round: u32 },
@@ -29,7 +29,7 @@ pub enum Request {
 }
 
 /// Why a child is being ended.
-#[derive(Clone, Copy, Debug, Drop)]
+#[derive(Clone, Copy, Drop)]
 pub enum TerminateReason {
     /// It ran too long.
     Timeout,
@@ -38,7 +38,7 @@ pub enum TerminateReason {
 }
 
 /// The signal that ends a child.
-#[derive(Clone, Copy, Debug, Drop)]
+#[derive(Clone, Copy, Drop)]
 pub enum TermSignal {
     Interrupt,
     Term,
@@ -48,7 +48,7 @@ pub enum TermSignal {
 }
 
 /// A signal that is asked for a child.
-#[derive(Clone, Copy, Debug, Drop)]
+#[derive(Clone, Copy, Drop)]
 pub enum ChildSignal {
     /// It is to end.
     End(TermSignal),

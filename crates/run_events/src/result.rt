@@ -9,7 +9,7 @@ use run_commands::{EnvMap, SetupScriptOutputError};
 use std::alloc::Global;
 
 /// How a child ended.
-#[derive(Clone, Copy, Debug, Drop)]
+#[derive(Clone, Copy, Drop)]
 pub enum ChildExit {
     /// It exited with a code.
     Code(i32),
@@ -18,7 +18,7 @@ pub enum ChildExit {
 }
 
 /// How a failed child ended.
-#[derive(Clone, Copy, Debug, Drop, PartialEq, Eq)]
+#[derive(Clone, Copy, Drop, PartialEq, Eq)]
 pub enum FailureStatus {
     /// It exited with a code other than 0.
     ExitCode(i32),
@@ -27,28 +27,28 @@ pub enum FailureStatus {
 }
 
 /// What a leaked descriptor means for a test's result.
-#[derive(Clone, Copy, Debug, Drop, PartialEq, Eq)]
+#[derive(Clone, Copy, Drop, PartialEq, Eq)]
 pub enum LeakTimeoutResult {
     Pass,
     Fail,
 }
 
 /// What a test that ran too long is given as its result.
-#[derive(Clone, Copy, Debug, Drop, PartialEq, Eq)]
+#[derive(Clone, Copy, Drop, PartialEq, Eq)]
 pub enum SlowTimeoutResult {
     Pass,
     Fail,
 }
 
 /// What a test that passed only after a retry is given as its result.
-#[derive(Clone, Copy, Debug, Drop, PartialEq, Eq)]
+#[derive(Clone, Copy, Drop, PartialEq, Eq)]
 pub enum FlakyResult {
     Pass,
     Fail,
 }
 
 /// The result of one attempt.
-#[derive(Clone, Copy, Debug, Drop, PartialEq, Eq)]
+#[derive(Clone, Copy, Drop, PartialEq, Eq)]
 pub enum ExecutionResult {
     /// It exited with code 0.
     Pass,
@@ -70,7 +70,7 @@ pub enum ExecutionResult {
 }
 
 /// What came of the child of an attempt.
-#[derive(Debug, Drop)]
+#[derive(Drop)]
 pub enum ChildExecutionOutput {
     /// It was started: what it wrote, and the faults at its descriptors and of its wait, in order.
     Output {
@@ -104,7 +104,7 @@ impl Duplicate for ChildExecutionOutput {
 }
 
 /// What came of a setup script's environment file.
-#[derive(Debug, Drop)]
+#[derive(Drop)]
 pub enum ScriptEnv {
     /// It wasn't read, since the script failed.
     Unread,
@@ -125,7 +125,7 @@ impl Duplicate for ScriptEnv {
 }
 
 /// The one attempt of a setup script: moments and times in nanoseconds of the run's clock.
-#[derive(Debug, Drop)]
+#[derive(Drop)]
 pub struct SetupScriptExecuteStatus {
     pub result: ExecutionResult,
     /// What came of its child.
@@ -155,7 +155,7 @@ impl Duplicate for SetupScriptExecuteStatus {
 }
 
 /// One attempt of a test: moments and times in nanoseconds of the run's clock.
-#[derive(Debug, Drop)]
+#[derive(Drop)]
 pub struct ExecuteStatus {
     /// Which attempt, from 1.
     pub attempt: u32,

@@ -1,7 +1,7 @@
 // How often an attempt is repeated, and when a run gives up.
 
 /// How often a failed test is tried again, and after which delays. Times are in nanoseconds.
-#[derive(Clone, Copy, Debug, Drop)]
+#[derive(Clone, Copy, Drop)]
 pub enum RetryPolicy {
     /// After the same delay each time.
     Fixed {
@@ -20,7 +20,7 @@ pub enum RetryPolicy {
 }
 
 /// What becomes of the tests that run where too many have failed.
-#[derive(Clone, Copy, Debug, Drop)]
+#[derive(Clone, Copy, Drop)]
 pub enum TerminateMode {
     /// They run on.
     Wait,
@@ -29,7 +29,7 @@ pub enum TerminateMode {
 }
 
 /// After how many failures no test starts any more.
-#[derive(Clone, Copy, Debug, Drop)]
+#[derive(Clone, Copy, Drop)]
 pub enum MaxFail {
     /// All tests run, whatever fails.
     All,
@@ -41,7 +41,7 @@ pub enum MaxFail {
 }
 
 /// How many tests may run at a time.
-#[derive(Clone, Copy, Debug, Drop)]
+#[derive(Clone, Copy, Drop)]
 pub enum TestThreads {
     Count(u32),
 }

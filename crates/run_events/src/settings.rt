@@ -8,7 +8,6 @@ use run_commands::{Interceptor, StressCondition};
 use std::alloc::Global;
 
 /// The effective settings of a run, with the plan that they belong to.
-#[derive(Debug)]
 pub struct Settings {
     pub plan: Plan,
     pub capture: CaptureStrategy,
@@ -44,7 +43,7 @@ impl Drop for Settings {
 }
 
 // What settings hold beside the plan.
-#[derive(Debug, Drop)]
+#[derive(Drop)]
 struct Extras {
     stress: Option<StressCondition>,
     interceptor: Interceptor,

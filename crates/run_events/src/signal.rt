@@ -3,7 +3,7 @@ ghost use Rattle.std.specs.Prelude.{◌≡◌};
 ghost use Rattle.run_events.specs.Hearing.{heard_signal};
 
 /// A signal to the runner.
-#[derive(Clone, Copy, Debug, Drop)]
+#[derive(Clone, Copy, Drop)]
 pub enum Signal {
     Int,
     Hup,
@@ -26,7 +26,7 @@ pub enum SignalHandlerKind {
 }
 
 /// What a signal is to a run that hears it.
-#[derive(Clone, Copy, Debug, Drop)]
+#[derive(Clone, Copy, Drop)]
 pub enum Heard {
     /// It shuts the run down.
     Shutdown,

@@ -7,14 +7,14 @@ use run_commands::StressCount;
 
 /// Which sub-run of a stress run it is: how many have ended, and how many there are to be where that is a
 /// finite count.
-#[derive(Clone, Copy, Debug, Drop)]
+#[derive(Clone, Copy, Drop)]
 pub struct StressIndex {
     pub current: u32,
     pub total: Option<u32>,
 }
 
 /// How far a stress run is. Times are in nanoseconds.
-#[derive(Clone, Copy, Debug, Drop, PartialEq, Eq)]
+#[derive(Clone, Copy, Drop, PartialEq, Eq)]
 pub enum StressProgress {
     /// It is to have so many sub-runs.
     Count {
@@ -32,7 +32,7 @@ pub enum StressProgress {
 }
 
 /// What remains of a stress run.
-#[derive(Clone, Copy, Debug, Drop)]
+#[derive(Clone, Copy, Drop)]
 pub enum StressRemaining {
     /// So many sub-runs, at least one.
     Runs(u32),
@@ -77,7 +77,7 @@ impl StressProgress {
 }
 
 /// What came of the sub-runs of a stress run.
-#[derive(Clone, Copy, Debug, Drop)]
+#[derive(Clone, Copy, Drop)]
 pub struct StressRunStats {
     pub completed: StressIndex,
     pub success_count: u32,

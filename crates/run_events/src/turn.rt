@@ -9,7 +9,7 @@ use run_commands::EnvInput;
 use std::alloc::Global;
 
 /// A turn: one thing that happened. A unit is a setup script or a test, by its number.
-#[derive(Debug, Drop)]
+#[derive(Drop)]
 pub enum Turn {
     /// The run, or a further sub-run of a stress run, begins.
     Begin,

@@ -1,7 +1,7 @@
 // Types whose values can be compared.
 ghost use Rattle.std.specs.Prelude.{◌≡◌, ◌↔◌, IsTrue, length};
 
-use jiff::Timestamp;
+use jiff_core::Timestamp;
 use run_capture::{List, Text};
 use uuid::Uuid;
 
