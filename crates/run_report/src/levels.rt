@@ -1,9 +1,9 @@
 // Which lines are shown, and when the outputs of tests are.
 ghost use Rattle.std.specs.Prelude.{◌≡◌};
-ghost use Rattle.run_report.specs.Levels.{is_at_end, is_at_once, shows, shows_at_end};
+ghost use Rattle.run_report.specs.Levels.{final_rank, is_at_end, is_at_once, level_rank, shows, shows_at_end};
 
 /// Down to what a line is shown as the run goes on: each level shows what those before it show.
-#[derive(Clone, Copy, Drop, PartialEq, Eq, PartialOrd, Ord)]
+#[derive(Clone, Copy, Drop)]
 pub enum StatusLevel {
     None,
     Fail,
@@ -16,16 +16,32 @@ pub enum StatusLevel {
 }
 
 impl StatusLevel {
+    // Its place in the order of levels.
+    fn rank(self) -> u8
+        ensures { result ≡ level_rank self }
+    {
+        match self {
+            StatusLevel::None => 0,
+            StatusLevel::Fail => 1,
+            StatusLevel::Retry => 2,
+            StatusLevel::Slow => 3,
+            StatusLevel::Leak => 4,
+            StatusLevel::Pass => 5,
+            StatusLevel::Skip => 6,
+            StatusLevel::All => 7,
+        }
+    }
+
     // Whether it shows a line of another level.
     pub(crate) fn shows(self, line: StatusLevel) -> bool
         ensures { result ≡ shows self line }
     {
-        line <= self
+        line.rank() <= self.rank()
     }
 }
 
 /// Down to what a finish is shown again at the end of a run or a sub-run.
-#[derive(Clone, Copy, Drop, PartialEq, Eq, PartialOrd, Ord)]
+#[derive(Clone, Copy, Drop)]
 pub enum FinalStatusLevel {
     None,
     Fail,
@@ -38,11 +54,27 @@ pub enum FinalStatusLevel {
 }
 
 impl FinalStatusLevel {
+    // The same of a finish.
+    fn rank(self) -> u8
+        ensures { result ≡ final_rank self }
+    {
+        match self {
+            FinalStatusLevel::None => 0,
+            FinalStatusLevel::Fail => 1,
+            FinalStatusLevel::Flaky => 2,
+            FinalStatusLevel::Slow => 3,
+            FinalStatusLevel::Skip => 4,
+            FinalStatusLevel::Leak => 5,
+            FinalStatusLevel::Pass => 6,
+            FinalStatusLevel::All => 7,
+        }
+    }
+
     // Whether it shows a finish of another level.
     pub(crate) fn shows(self, finish: FinalStatusLevel) -> bool
         ensures { result ≡ shows_at_end self finish }
     {
-        finish <= self
+        finish.rank() <= self.rank()
     }
 }
 

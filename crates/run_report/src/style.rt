@@ -6,7 +6,7 @@ ghost use Rattle.run_report.specs.Style.{shown_char, shown_text, span_bytes, sty
 use run_capture::Mem;
 
 /// How a part of a line is shown, where colours are on.
-#[derive(Clone, Copy, Drop, PartialEq, Eq)]
+#[derive(Clone, Copy, Drop)]
 pub enum Style {
     Plain,
     Bold,
@@ -89,7 +89,7 @@ fn push_escaped(line: &mut String, text: &str) -> Mem<()>
 pub(crate) fn push_part(line: &mut String, color: bool, style: Style, text: &str) -> Mem<()>
     ensures { OnOk result (string_bytes line.new ≡ string_bytes line.old ++ span_bytes color (style, text.now)) }
 {
-    if !color || style == Style::Plain {
+    if !color || matches!(style, Style::Plain) {
         return push_escaped(line, text);
     }
     line.push_str("\u{1b}")?;
