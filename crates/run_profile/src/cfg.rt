@@ -5,9 +5,11 @@ ghost use Rattle.run_profile.specs.Platform.{predicate, quoted_value};
 ghost use Rattle.run_profile.specs.Platform.{whole_predicate};
 ghost use lib.Pointwise.{pointwise};
 
+use crate::errors::write_at;
 use crate::scan::{ByteKind, after, is_at};
 use run_capture::{List, Text};
-use thiserror::Error;
+use std::fmt;
+use std::fmt::{Display, Write};
 
 /// The platform that tests run on.
 #[derive(Drop)]
@@ -18,14 +20,21 @@ pub struct Cfg {
 }
 
 /// Why a text is no platform. Places are bytes of the text, from 0.
-#[derive(Clone, Copy, Debug, Drop, Error)]
+#[derive(Clone, Copy, Drop)]
 pub enum PlatformFault {
     /// What stands here, or the end, is not what may stand here.
-    #[error("not as expected at byte {place}")]
     NotExpected { place: usize },
     /// Too many items and parentheses stand before this place.
-    #[error("too deep at byte {place}")]
     TooDeep { place: usize },
+}
+
+impl Display for PlatformFault {
+    fn fmt<W: Write>(&self, f: &mut fmt::Formatter<W>) -> fmt::Result {
+        match self {
+            PlatformFault::NotExpected { place } => write_at(f, "not as expected at", *place),
+            PlatformFault::TooDeep { place } => write_at(f, "too deep at", *place),
+        }
+    }
 }
 
 /// How many items and parentheses a predicate may have on the way to each of its ends.

@@ -8,12 +8,11 @@ use crate::time::TimeFault;
 use itoa::Buffer;
 use run_capture::{Mem, OutOfMemory, Text};
 use std::alloc::Global;
+use std::fmt;
 use std::fmt::{Display, Write};
-use std::{error, fmt};
-use thiserror::Error;
 
 /// What is wrong at a place of a profile.
-#[derive(Clone, Copy, Debug, Drop)]
+#[derive(Clone, Copy, Drop)]
 pub enum Fault {
     /// No key of this name may stand here.
     UnknownKey,
@@ -85,14 +84,15 @@ impl Display for Fault {
     }
 }
 
-impl error::Error for Fault {}
+/// Writes what is wrong before a byte of a text.
+pub fn write_at<W: Write>(f: &mut fmt::Formatter<W>, wrong: &str, place: usize) -> fmt::Result {
+    write!(f, "{wrong} byte {place}")
+}
 
 /// Why a table is no profile: what is wrong, and the path of where, as `profile.ci.overrides[2].slow-timeout.period`.
-#[derive(Debug, Drop, Error)]
+#[derive(Drop)]
 pub enum ProfileError {
-    #[error("{at}: {fault}", at = .path.as_str())]
     Refused { path: Text, fault: Fault },
-    #[error("out of memory")]
     OutOfMemory,
 }
 

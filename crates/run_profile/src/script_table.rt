@@ -4,9 +4,9 @@ ghost use Rattle.toml.specs.View.{view, members_view};
 ghost use Rattle.run_commands.specs.CommandWords.{command_words};
 ghost use Rattle.run_profile.specs.Refusals.{Agrees, dotted};
 ghost use Rattle.run_profile.specs.Fields.{needed, only_keys, optional_key, or_nothing};
-ghost use Rattle.run_profile.specs.Scripts.{base_read, captures_read, command_read, command_form, script_entries};
-ghost use Rattle.run_profile.specs.Scripts.{script_entry, script_keys, setup_table, scripts_read, words_read};
-ghost use Rattle.run_profile.specs.Scripts.{words_said, words_split};
+ghost use Rattle.run_profile.specs.Scripts.{base_read, base_word, captures_read, command_read, command_form};
+ghost use Rattle.run_profile.specs.Scripts.{script_entries, script_entry, script_keys, setup_table, scripts_read};
+ghost use Rattle.run_profile.specs.Scripts.{words_read, words_said, words_split};
 
 use crate::both::both;
 use crate::errors::{Fault, ProfileError, dotted, refused};
@@ -65,15 +65,23 @@ fn words_at(alloc: Global, path: &str, table: &Value) -> Result<List<Text>, Prof
     }
 }
 
+fn base_word(alloc: Global, path: &str, word: &str) -> Result<RelativeTo, ProfileError>
+    ensures { Agrees result (base_word path.now word.now) }
+{
+    match word {
+        "none" => Ok(RelativeTo::Nothing),
+        "workspace-root" => Ok(RelativeTo::WorkspaceRoot),
+        "target" => Ok(RelativeTo::Target),
+        _ => refused(alloc, path, Fault::NotWord),
+    }
+}
+
 #[tactic(auto, unfolding(crate::specs::Scripts::base_read))]
 fn base_from(alloc: Global, path: &str, value: &Value) -> Result<RelativeTo, ProfileError>
     ensures { Agrees result (base_read path.now (view value.now)) }
 {
     match value.as_str() {
-        Some("none") => Ok(RelativeTo::Nothing),
-        Some("workspace-root") => Ok(RelativeTo::WorkspaceRoot),
-        Some("target") => Ok(RelativeTo::Target),
-        Some(_) => refused(alloc, path, Fault::NotWord),
+        Some(word) => base_word(alloc, path, word),
         None => refused(alloc, path, Fault::NotText),
     }
 }

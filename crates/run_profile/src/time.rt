@@ -6,21 +6,33 @@ ghost use Rattle.run_profile.specs.Time.{within_u64, long_unit_named, next_part,
 ghost use Rattle.run_profile.specs.Time.{unit_end, unit_start};
 ghost use Rattle.run_profile.specs.Time.{with_part, with_parts};
 
+use crate::errors::write_at;
 use crate::scan::{ByteKind, after};
-use thiserror::Error;
+use std::fmt;
+use std::fmt::{Display, Write};
 
 /// Why a text is no time. Places are bytes of the text, from 0.
-#[derive(Clone, Copy, Debug, Drop, Error)]
+#[derive(Clone, Copy, Drop)]
 pub enum TimeFault {
     /// No number stands here.
-    #[error("no number at byte {place}")]
     NoNumber { place: usize },
     /// No known unit stands here, after its number.
-    #[error("no unit at byte {place}")]
     NoUnit { place: usize },
     /// With the part that begins here the time is longer than 18446744073709551615 nanoseconds.
-    #[error("too long from byte {place} on")]
     TooLong { place: usize },
+}
+
+impl Display for TimeFault {
+    fn fmt<W: Write>(&self, f: &mut fmt::Formatter<W>) -> fmt::Result {
+        match self {
+            TimeFault::NoNumber { place } => write_at(f, "no number at", *place),
+            TimeFault::NoUnit { place } => write_at(f, "no unit at", *place),
+            TimeFault::TooLong { place } => {
+                write_at(f, "too long from", *place)?;
+                f.write_str(" on")
+            }
+        }
+    }
 }
 
 /// Whether a word is one of these names.
