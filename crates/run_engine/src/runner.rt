@@ -21,7 +21,7 @@ use crate::course::{Stop, take_all};
 use crate::errors::TestRunnerExecuteErrors;
 use crate::lean::LeanRun;
 use crate::run::Run;
-use jiff_core::Timestamp;
+use jiff::Timestamp;
 use run_capture::{Mem, Whole};
 use run_events::{
     Children, EventLog, InputHandlerKind, InputHandlerStatus, Reporter, RunOutcome, Settings, Turn,
@@ -105,6 +105,16 @@ fn run_all<C: Children, R: Reporter>(
     }
 }
 
+// The moment of a plan as jiff's own.
+fn of_jiff(moment: jiff_core::Timestamp) -> Timestamp
+    ensures { result ≡ moment }
+{
+    match Timestamp::from_nanosecond(moment.nanosecond) {
+        Ok(same) => same,
+        Err(_) => unreachable!(),
+    }
+}
+
 impl TestRunner {
     // A runner with these settings.
     pub(crate) fn new(settings: Settings) -> Self
@@ -140,12 +150,10 @@ impl TestRunner {
         ensures given { IfSome self.now.plan.head.started_at (λ moment. result ≡ moment) }
         ensures usual { self.now.plan.head.started_at ≡ None → result.nanosecond ≡ pos 0 }
     {
-        self.settings
-            .get()
-            .plan
-            .head
-            .started_at
-            .unwrap_or(Timestamp::UNIX_EPOCH)
+        match self.settings.get().plan.head.started_at {
+            Some(moment) => of_jiff(moment),
+            None => Timestamp::UNIX_EPOCH,
+        }
     }
 
     /// How many tests may run at a time.

@@ -14,7 +14,7 @@ pub struct StressIndex {
 }
 
 /// How far a stress run is. Times are in nanoseconds.
-#[derive(Clone, Copy, Drop, PartialEq, Eq)]
+#[derive(Clone, Copy, Debug, Drop, PartialEq, Eq)]
 pub enum StressProgress {
     /// It is to have so many sub-runs.
     Count {

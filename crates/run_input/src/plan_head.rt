@@ -18,7 +18,7 @@ use crate::fields::{text_or, texts_or_none};
 use crate::misfit::Wrong;
 use crate::plan_runners::runners_at;
 use crate::refusal::{Refusal, missing, or_not};
-use jiff::Timestamp;
+use jiff_core::Timestamp;
 use run_capture::{List, Text};
 use run_commands::{TargetRunner, VersionEnvVars};
 use run_events::{RunHead, RunMode};
@@ -113,12 +113,22 @@ fn run_id_at(alloc: Global, plan: &Value) -> Result<Uuid, Refusal>
     }
 }
 
+// A moment as plans have it: what stands on a plan need not know all of jiff.
+fn plain(moment: jiff::Timestamp) -> Option<Timestamp>
+    ensures { result ≡ Some moment }
+{
+    match Timestamp::from_nanosecond(moment.as_nanosecond()) {
+        Ok(plain) => Some(plain),
+        Err(_) => None,
+    }
+}
+
 // The moment that a text writes in the Temporal format.
 fn parse_moment(text: &str) -> Option<Timestamp>
     ensures { result ≡ moment_named text.now }
 {
-    match text.parse::<Timestamp>() {
-        Ok(moment) => Some(moment),
+    match text.parse::<jiff::Timestamp>() {
+        Ok(moment) => plain(moment),
         Err(_) => None,
     }
 }

@@ -2,7 +2,6 @@ pub mod LockedLemmas
 pub mod Marked
 pub mod LeftLemmas
 pub mod Items
-pub mod Leaves
 pub mod Counts
 pub mod SettledLemmas
 pub mod OrderLemmas

@@ -13,7 +13,7 @@ use run_events::Turn;
 use std::alloc::Global;
 
 /// What a store has.
-#[derive(Debug, Drop)]
+#[derive(Drop)]
 pub struct Stored {
     /// The plan line, without a line feed.
     pub plan: Blob,

@@ -7,4 +7,4 @@ use Rattle.run_input.proofs.plan_head.parse_moment.Goals as goal
 pub returns-in-Ok : goal.returns-in-Ok
 returns-in-Ok c =
     let read = c.in-Ok.ensures.value in
-    sym (moment_at-nanosecond c.in-Ok.moment) ∙ ap (λ r. option_and_then moment_at (result_ok r)) read
+    c.plain.ensures ∙ sym (moment_at-nanosecond c.in-Ok.moment) ∙ ap (λ r. option_and_then moment_at (result_ok r)) read

@@ -1,4 +1,4 @@
--- Values that hold a proof of a bound.
+-- Moments that have as many nanoseconds are the same.
 use Rattle.std.proofs.Common.{◌≡◌, ℕ, ◌<◌, subst, ap, refl, ◌∙◌}
 use Rattle.std.specs.Prelude.{ℤ}
 use Rattle.std.proofs.Math.Dec.{T, T_prop}
@@ -14,11 +14,11 @@ range_prop n p q =
     ap {B = IsTimestampNanos n} (λ x. (x, p.1)) (le_same _ _ p.0 q.0)
     ∙ ap {B = IsTimestampNanos n} (λ y. (q.0, y)) (le_same _ _ p.1 q.1)
 
-abbrev instant : (n : ℤ) → IsTimestampNanos n → Timestamp
-instant n p = record { nanosecond = n; in_range = p }
+abbrev moment : (n : ℤ) → IsTimestampNanos n → Timestamp
+moment n p = record { nanosecond = n; in_range = p }
 
-pub instant_same : (a b : Timestamp) → a.nanosecond ≡ b.nanosecond → a ≡ b
-instant_same a b e =
-    subst (λ (n : ℤ). (p : IsTimestampNanos n) → a ≡ instant n p) e
-    (λ p. ap (λ (q : IsTimestampNanos a.nanosecond). instant a.nanosecond q) (range_prop a.nanosecond a.in_range p))
+pub moment_same : (a b : Timestamp) → a.nanosecond ≡ b.nanosecond → a ≡ b
+moment_same a b e =
+    subst (λ (n : ℤ). (p : IsTimestampNanos n) → a ≡ moment n p) e
+    (λ p. ap (λ (q : IsTimestampNanos a.nanosecond). moment a.nanosecond q) (range_prop a.nanosecond a.in_range p))
     b.in_range
