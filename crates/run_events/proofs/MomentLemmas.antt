@@ -1,5 +1,5 @@
 -- Moments that have as many nanoseconds are the same.
-use Rattle.std.proofs.Common.{◌≡◌, ℕ, ◌<◌, subst, ap, refl, ◌∙◌}
+use Rattle.std.proofs.Common.{◌≡◌, subst, ap, ◌∙◌}
 use Rattle.std.specs.Prelude.{ℤ}
 use Rattle.std.proofs.Math.Dec.{T, T_prop}
 use Rattle.std.specs.Int.Signed.{◌≤ℤ◌, le_z}
