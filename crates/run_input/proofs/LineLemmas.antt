@@ -1,9 +1,24 @@
 -- Where the first line ends.
 use Rattle.std.proofs.Common.{◌≡◌, ◌≢◌, ℕ, zero, suc, ◌<◌, ◌==◌, List, [], ◌∷◌, ◌-◌, ◌+◌, ◌∙◌, sym, add-one, length}
-use Rattle.std.proofs.Common.{take, drop, get_or, false, refl, ap, arith}
+use Rattle.std.proofs.Common.{take, drop, get_or, false, refl, ap, arith, eq-eqb, eqb-true}
 use Rattle.std.proofs.lemmas.Bool.Decides.{nat_tests}
+use Rattle.memchr.specs.Find.{NoneBefore, Nowhere, Passes, is_byte}
 use Rattle.run_capture.proofs.BytesLemmas.{take-drop_all}
 use Rattle.run_input.specs.Lines.{lines_of, at_front}
+
+-- the bytes before the place of the first LF are none
+pub no_feed_before : (bytes : List ℕ) (n : ℕ) → NoneBefore (Passes (is_byte 10) bytes) 0 (length bytes) n
+    → (k : ℕ) → k < n → get_or bytes k 0 ≢ 10
+no_feed_before bytes n none k below is = none.before k (omega arith) below (eq-eqb (get_or bytes k 0) 10 is)
+
+-- where there is no such place none is
+pub no_feed_all : (bytes : List ℕ) → Nowhere (Passes (is_byte 10) bytes) 0 (length bytes)
+    → (k : ℕ) → k < length bytes → get_or bytes k 0 ≢ 10
+no_feed_all bytes none k below is = none k (omega arith) below (eq-eqb (get_or bytes k 0) 10 is)
+
+-- at that place is one
+pub feed_there : (bytes : List ℕ) (n : ℕ) → Passes (is_byte 10) bytes n → get_or bytes n 0 ≡ 10
+feed_there bytes n is = eqb-true (get_or bytes n 0) 10 is
 
 -- a byte other than LF goes to the front of the line after it
 lines_of-other : (byte : ℕ) (bytes : List ℕ) → byte ≢ 10 → lines_of (byte ∷ bytes) ≡ at_front byte (lines_of bytes)

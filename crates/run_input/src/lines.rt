@@ -2,18 +2,19 @@
 ghost use Rattle.std.specs.Prelude.{◌≡◌, ◌≢◌, ◌<◌, ◌≤◌, ◌∷◌, ℕ, length, slice_index};
 ghost use Rattle.run_input.specs.Lines.{lines_of};
 
+use memchr::memchr;
+
 // The place of the first LF, or the length where there is none.
+#[tactic(auto, using(crate::proofs::LineLemmas::no_feed_before, crate::proofs::LineLemmas::no_feed_all, crate::proofs::LineLemmas::feed_there))]
 fn end_of_line(bytes: &[u8]) -> usize
     ensures within { result ≤ length bytes.now }
     ensures before { (k : ℕ) → k < result → slice_index bytes.now k ≢ 10 }
     ensures found { result < length bytes.now → slice_index bytes.now result ≡ 10 }
 {
-    for (i, byte) in bytes.iter().enumerate() {
-        if *byte == b'\n' {
-            return i;
-        }
+    match memchr(b'\n', bytes) {
+        Some(place) => place,
+        None => bytes.len(),
     }
-    bytes.len()
 }
 
 /// The first line of some bytes, without its end, and the bytes after it.
