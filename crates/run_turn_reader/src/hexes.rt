@@ -2,6 +2,7 @@
 ghost use Rattle.std.specs.Prelude.{◌≡◌, ◌≤◌, ◌++◌, [], length, true, IfOk, IfSome, IsTrue};
 ghost use Rattle.hex.specs.Hex.{encode_lower};
 
+use memchr::memchr;
 use run_capture::{Blob, Mem};
 use std::alloc::Global;
 
@@ -64,12 +65,10 @@ fn bytes_of(alloc: Global, digits: &[u8]) -> Mem<Option<Blob>>
 fn quoted_len(text: &[u8]) -> usize
     ensures { result ≤ length text.now }
 {
-    for (i, byte) in text.iter().enumerate() {
-        if *byte == b'"' {
-            return i;
-        }
+    match memchr(b'"', text) {
+        Some(place) => place,
+        None => text.len(),
     }
-    text.len()
 }
 
 /// The bytes whose hex stands before the first quotation mark, if it is that, and what begins with the mark.
