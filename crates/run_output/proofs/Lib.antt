@@ -1,5 +1,6 @@
 mod AskLemmas
 mod FieldLemmas
+mod InOrderLemmas
 pub mod FrontsLemmas
 mod PrintLemmas
 mod RowLemmas

@@ -14,11 +14,11 @@ use Rattle.run_output.specs.Rows.{members_from, row_place, has_key, starts_above
 
 -- ---- keys that ascend
 
-abbrev StartsAbove : {F : Type 0} → List ℕ → List (Bor (List ℕ) × F) → Type 0
+abbrev pub StartsAbove : {F : Type 0} → List ℕ → List (Bor (List ℕ) × F) → Type 0
 StartsAbove key [] = ⊤
 StartsAbove key (row ∷ rows) = slice_cmp nat_cmp row.0.now key ≡ Greater
 
-abbrev Ascend : {F : Type 0} → List (Bor (List ℕ) × F) → Type 0
+abbrev pub Ascend : {F : Type 0} → List (Bor (List ℕ) × F) → Type 0
 Ascend [] = ⊤
 Ascend (row ∷ rows) = StartsAbove row.0.now rows × Ascend rows
 
@@ -32,7 +32,7 @@ starts_above_if : {F : Type 0} (key : List ℕ) (rows : List (Bor (List ℕ) × 
 starts_above_if key [] e = tt
 starts_above_if key (row ∷ rows) e = greater_if _ e
 
-ascend_if : {F : Type 0} (rows : List (Bor (List ℕ) × F)) → ascend rows ≡ true → Ascend rows
+pub ascend_if : {F : Type 0} (rows : List (Bor (List ℕ) × F)) → ascend rows ≡ true → Ascend rows
 ascend_if [] e = tt
 ascend_if (row ∷ rows) e =
     (starts_above_if row.0.now rows (and_parts _ _ e).0, ascend_if rows (and_parts _ _ e).1)
@@ -42,7 +42,7 @@ starts_above_from : {F : Type 0} (key : List ℕ) (rows : List (Bor (List ℕ) �
 starts_above_from key [] e = refl
 starts_above_from key (row ∷ rows) e = ap is_gt e
 
-ascend_from : {F : Type 0} (rows : List (Bor (List ℕ) × F)) → Ascend rows → ascend rows ≡ true
+pub ascend_from : {F : Type 0} (rows : List (Bor (List ℕ) × F)) → Ascend rows → ascend rows ≡ true
 ascend_from [] e = refl
 ascend_from (row ∷ rows) e =
     and_from _ _ (starts_above_from row.0.now rows e.0) (ascend_from rows e.1)
@@ -55,7 +55,7 @@ turned_back : (k l : List ℕ) → slice_cmp nat_cmp k l ≡ Greater → slice_c
 turned_back k l e = nat_list_cmp_total.antisymm l k ∙ ap ordering_reverse e
 
 -- above what is above
-above_both : (a b c : List ℕ) → slice_cmp nat_cmp a b ≡ Greater → slice_cmp nat_cmp b c ≡ Greater
+pub above_both : (a b c : List ℕ) → slice_cmp nat_cmp a b ≡ Greater → slice_cmp nat_cmp b c ≡ Greater
     → slice_cmp nat_cmp a c ≡ Greater
 above_both a b c e f = turned c a (nat_list_cmp_total.trans c b a (turned_back b c f) (turned_back a b e))
 

@@ -4,13 +4,16 @@ ghost use Rattle.serde_json.specs.Data.{put, no_members, object};
 ghost use Rattle.run_output.specs.Rows.{ascend};
 ghost use Rattle.json.specs.Print.{print};
 ghost use Rattle.serde_json.specs.Written.{compact_text};
-ghost use Rattle.run_output.specs.Printer.{Prints, data_tokens, or_null};
+ghost use Rattle.run_output.specs.Printer.{Prints, data_tokens, member_tokens, or_null};
 ghost use Rattle.run_output.specs.Fields.{put_all, rows, object_of, object_text};
 
 use crate::printer::{Printed, Printer};
-use crate::rows::{is_last, place_of};
+use crate::rows::{are_in_order, is_last, place_of};
 use run_capture::{Mem, Text};
 use std::alloc::Global;
+
+/// Most objects have no more members than these.
+const ROOM: usize = 10;
 
 /// The members of an object: each key, in byte order, with what stands there.
 #[derive(Drop)]
@@ -19,15 +22,44 @@ pub(crate) struct Object<F> {
     ghost in_order: { ascend rows.items ≡ true },
 }
 
+// Prints a member of an object, if there is a value.
+#[tactic(auto, using(crate::proofs::InOrderLemmas::no_member, crate::proofs::InOrderLemmas::one_member))]
+fn print_member<F: Printed>(alloc: Global, out: &mut Printer, key: &str, field: &F) -> Mem<()>
+    ensures { Prints result out.old out.new (member_tokens key.now (F.printed field.now)) }
+{
+    if field.is_absent() {
+        return Ok(());
+    }
+    out.key(key)?;
+    field.print(alloc, out)
+}
+
+// Prints the object of fields whose keys stand in byte order.
+fn print_in_order<F: Printed>(
+    alloc: Global,
+    out: &mut Printer,
+    fields: &[(&'static str, F)],
+) -> Mem<()>
+    requires { ascend fields.now ≡ true }
+    ensures { Prints result out.old out.new
+        (data_tokens (object_of (rows F.printed fields.now))) }
+{
+    out.begin_object()?;
+    for (key, field) in fields {
+        print_member(alloc, out, key, field)?;
+    }
+    out.end_object()
+}
+
 impl<F: Printed + Copy> Object<F> {
     ghost use Rattle.run_output.specs.Object.{members_of};
 
-    /// An object with no members.
-    pub(crate) fn new(alloc: Global) -> Mem<Object<F>>
+    /// An object with no members, and room for so many.
+    pub(crate) fn with_room(alloc: Global, count: usize) -> Mem<Object<F>>
         ensures { IfOk result (λ o. members_of F.printed o ≡ no_members) }
     {
         Ok(Object {
-            rows: Vec::with_capacity(alloc, 14)?,
+            rows: Vec::with_capacity(alloc, count)?,
         })
     }
 
@@ -93,10 +125,10 @@ impl<F: Printed + Copy> Object<F> {
         ensures { IfOk result
             (λ o. members_of F.printed o ≡ put_all (rows F.printed fields.now) no_members) }
     {
-        Object::new(alloc)?.with(fields)
+        Object::with_room(alloc, fields.len().max(ROOM))?.with(fields)
     }
 
-    /// Prints the object of these fields.
+    /// Prints the object of these fields, which mostly come in the order of their keys.
     pub(crate) fn print_of(
         alloc: Global,
         out: &mut Printer,
@@ -105,6 +137,9 @@ impl<F: Printed + Copy> Object<F> {
         ensures { Prints result out.old out.new
             (data_tokens (object_of (rows F.printed fields.now))) }
     {
+        if are_in_order(fields) {
+            return print_in_order(alloc, out, fields);
+        }
         Object::of(alloc, fields)?.print(alloc, out)
     }
 
@@ -120,10 +155,13 @@ impl<F: Printed + Copy> Object<F> {
     }
 
     /// A line with the object of these fields.
+    #[tactic(auto, using(crate::proofs::PrintLemmas::print_data))]
     pub(crate) fn printed_of(alloc: Global, fields: &[(&'static str, F)]) -> Mem<Printer>
         ensures { IfOk result (λ p. print p ≡ object_text (rows F.printed fields.now)) }
     {
-        Object::of(alloc, fields)?.printed(alloc)
+        let mut out = Printer::new(alloc)?;
+        Object::print_of(alloc, &mut out, fields)?;
+        Ok(out)
     }
 
     /// The text of the object of these fields.

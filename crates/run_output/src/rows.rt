@@ -35,3 +35,18 @@ pub(crate) fn place_of<F>(rows: &[(&'static str, F)], key: &str) -> (usize, bool
     }
     (place, false)
 }
+
+/// Whether each key stands above the one before it.
+#[tactic(auto, using(crate::proofs::InOrderLemmas::one_in_order))]
+pub(crate) fn are_in_order<F>(fields: &[(&'static str, F)]) -> bool
+    ensures { result ≡ true → ascend fields.now ≡ true }
+{
+    let mut at = 1;
+    while at < fields.len() {
+        match fields[at].0.cmp(fields[at - 1].0) {
+            Ordering::Greater => at += 1,
+            _ => return false,
+        }
+    }
+    true
+}
