@@ -169,6 +169,37 @@ impl<S: Source> SourceLines<S> {
         Ok(Part::Open)
     }
 
+    // Reads on in a line of which nothing stands ready, and answers whether that was to its end: else to the source's.
+    fn read_to_end(&mut self, line: &mut Vec<u8>) -> Result<bool, ReadError>
+        requires { drop self.old.at self.old.read.items ≡ [] }
+        ensures ended { IfOk result (λ ended. ended ≡ true → (before : Option (List ℕ))
+            → IsPartRead before (ahead (S.left self.old.source) (drop self.old.at self.old.read.items)) line.old.items
+            → FirstLines before (ahead (S.left self.new.source) (drop self.new.at self.new.read.items))
+            (line.new.items ∷ [])) }
+        ensures begun { IfOk result (λ ended. ended ≡ false → (before : Option (List ℕ))
+            → IsPartRead before (ahead (S.left self.old.source) (drop self.old.at self.old.read.items)) line.old.items
+            → IsPartRead before (ahead (S.left self.new.source) (drop self.new.at self.new.read.items))
+            line.new.items) }
+        ensures end { IfOk result (λ ended. ended ≡ false
+            → AtEnd (ahead (S.left self.new.source) (drop self.new.at self.new.read.items))) }
+        ensures refused { (before : Option (List ℕ))
+            → IsPartRead before (ahead (S.left self.old.source) (drop self.old.at self.old.read.items)) line.old.items
+            → IfErr result (λ e. IsUnreadLine LINE_LIMIT before e) }
+        ensures fault { RoseExactlyIf (has_failed result) (S.faults self.old.source) (S.faults self.new.source) }
+    {
+        'reads: for reads in 0..LINE_LIMIT + 1 {
+            if line.len() > LINE_LIMIT {
+                break;
+            }
+            match self.read_on(line)? {
+                Part::Ended => return Ok(true),
+                Part::Last => return Ok(false),
+                Part::Open => {}
+            }
+        }
+        Err(ReadError::TooLong)
+    }
+
     /// Reads the next line, without its end; none where there is none left.
     pub(crate) fn next_line(&mut self, alloc: Global) -> Result<Option<Vec<u8>>, ReadError>
         ensures line { IfOk result (λ line. FirstLines
@@ -184,16 +215,9 @@ impl<S: Source> SourceLines<S> {
         if self.take_more(&mut line)? {
             return Ok(Some(line));
         }
-        'reads: for reads in 0..LINE_LIMIT + 1 {
-            if line.len() > LINE_LIMIT {
-                break;
-            }
-            match self.read_on(&mut line)? {
-                Part::Ended => return Ok(Some(line)),
-                Part::Last => return Ok(some_line(line)),
-                Part::Open => {}
-            }
+        if self.read_to_end(&mut line)? {
+            return Ok(Some(line));
         }
-        Err(ReadError::TooLong)
+        Ok(some_line(line))
     }
 }
