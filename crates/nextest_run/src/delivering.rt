@@ -6,7 +6,7 @@ use crate::recording::{close, create, end_with, end_without_record};
 use run_capture::{Blob, Sink};
 use run_cli::{Ran, StdSink};
 use run_junit::{JUnitReport, Pair};
-use run_keep::Outside;
+use run_keep::{Halter, KeeperHost, Outside};
 use run_keep_host::{FirstLineError, LineOutside, StdKeeperHost, StopHalter, TickingOutside};
 use run_output::Fault;
 use run_record::{RecordOutcome, Recorded, run_recorded};
@@ -56,6 +56,34 @@ fn around<O>(rt: HostRuntime, outside: O) -> Around<O, StopHalter<HostRuntime>>
     Around { outside, halter }
 }
 
+// Runs the plan of a line on a host, which isn't needed any more then.
+fn run_on<
+    K: Sink + Send,
+    B: Listener + Send,
+    H: KeeperHost + Drop,
+    O: Outside + Send + Drop,
+    S: Halter + Send + Drop,
+    X: Threads + Wait + Sync,
+>(
+    threads: &X,
+    alloc: Global,
+    line: &Blob,
+    sink: K,
+    report: B,
+    host: H,
+    around: Around<O, S>,
+) -> (Ran<K>, B)
+    requires unheard { B.heard report [] }
+    requires quiet { O.has_come around.outside [] }
+    requires runs { S.has_halted around.halter 0 }
+{
+    let mut host = host;
+    let line = line.as_slice();
+    let (ran, left, report) = run_plan(threads, alloc, line, sink, report, &mut host, around);
+    drop(left);
+    (ran, report)
+}
+
 // Runs the plan of a line.
 fn run_line<
     K: Sink + Send,
@@ -66,19 +94,9 @@ fn run_line<
     requires unheard { B.heard report [] }
     requires quiet { O.has_come outside [] }
 {
-    let mut host = StdKeeperHost::new(rt, *threads, rt.alloc());
+    let host = StdKeeperHost::new(rt, *threads, rt.alloc());
     let around = around(rt, host.paced(outside));
-    let (ran, left, report) = run_plan(
-        threads,
-        rt.alloc(),
-        line.as_slice(),
-        sink,
-        report,
-        &mut host,
-        around,
-    );
-    drop(left);
-    (ran, report)
+    run_on(threads, rt.alloc(), line, sink, report, host, around)
 }
 
 // A run that was recorded: how it ended, its own status, what became of its record, and its report.
@@ -87,6 +105,49 @@ struct InRecord<K, B> {
     own: u8,
     outcome: RecordOutcome,
     report: B,
+}
+
+// Runs the plan of a line on a host, which isn't needed any more then, and records it.
+fn record_on<
+    K: Sink + Send,
+    F: Sink + Send + Drop,
+    B: Listener + Send,
+    H: KeeperHost + Drop,
+    O: Outside + Send + Drop,
+    S: Halter + Send + Drop,
+    X: Threads + Wait + Sync,
+>(
+    threads: &X,
+    alloc: Global,
+    line: &Blob,
+    sink: K,
+    file: F,
+    report: B,
+    host: H,
+    around: Around<O, S>,
+) -> InRecord<K, B>
+    requires unheard { B.heard report [] }
+    requires quiet { O.has_come around.outside [] }
+    requires runs { S.has_halted around.halter 0 }
+{
+    let mut host = host;
+    let line = line.as_slice();
+    let Recorded {
+        ran,
+        own,
+        outcome,
+        store,
+        left,
+        report,
+    } = run_recorded(threads, alloc, line, sink, file, report, &mut host, around);
+    drop(left);
+    drop(store);
+    InRecord {
+        ran,
+        own,
+        outcome,
+        report,
+    }
 }
 
 // Runs the plan of a line, and records it in a file.
@@ -107,33 +168,9 @@ fn run_line_in<
     requires unheard { B.heard report [] }
     requires quiet { O.has_come outside [] }
 {
-    let mut host = StdKeeperHost::new(rt, *threads, rt.alloc());
+    let host = StdKeeperHost::new(rt, *threads, rt.alloc());
     let around = around(rt, host.paced(outside));
-    let Recorded {
-        ran,
-        own,
-        outcome,
-        store,
-        left,
-        report,
-    } = run_recorded(
-        threads,
-        rt.alloc(),
-        line.as_slice(),
-        sink,
-        file,
-        report,
-        &mut host,
-        around,
-    );
-    drop(left);
-    drop(store);
-    InRecord {
-        ran,
-        own,
-        outcome,
-        report,
-    }
+    record_on(threads, rt.alloc(), line, sink, file, report, host, around)
 }
 
 // Runs the plan of a line, and records it in a new file. Answers also whether it was said that there is no file.
@@ -215,6 +252,38 @@ pub struct Listened<K, A> {
     pub junit: Option<JUnitReport>,
 }
 
+// Runs the plan of a line, whose later lines an outside hears, and hands back who listened.
+fn deliver<
+    K: Sink + Send,
+    A: Board + Send,
+    O: Outside + Send + Drop,
+    X: Threads + Wait + Clock + Sync + Send + Copy + Drop,
+>(
+    threads: &X,
+    rt: HostRuntime,
+    line: Blob,
+    lines: O,
+    sink: K,
+    report: A,
+    bar: Option<u32>,
+    junit: Option<JUnitReport>,
+    record: Option<&str>,
+) -> Listened<K, A>
+    requires report { A.heard report [] }
+    requires junit { IfSome junit (λ j. ⟦<JUnitReport as Listener>⟧.heard j []) }
+    requires quiet { O.has_come lines [] }
+{
+    let both = Pair::new(BarReport::new(report, *threads, bar), junit);
+    let outside = TickingOutside::new(lines, *threads, ticks(bar));
+    let (ran, said, both) = run_plan_line(threads, rt, &line, outside, sink, both, record);
+    let (report, junit) = both.into_parts();
+    Listened {
+        delivered: Delivered { line, ran, said },
+        report: report.into_report(),
+        junit,
+    }
+}
+
 /// Reads the plan line from standard input, and runs its plan: each later line is a signal or a key that it hears. With
 /// the name of a record it is recorded in a new file of that name. The report hears its events, with a bar for a
 /// terminal of this width, if one is wanted, and so does who keeps its cases; both are handed back.
@@ -236,23 +305,12 @@ pub fn run_and_deliver<
 {
     let alloc = rt.alloc();
     let mut lines = LineOutside::new(rt, alloc, rt.stdin());
-    let line = match lines.first_line(alloc) {
-        Ok(line) => line,
-        Err(error) => {
-            return Listened {
-                delivered: unread(alloc, sink, error),
-                report,
-                junit,
-            };
-        }
-    };
-    let both = Pair::new(BarReport::new(report, *threads, bar), junit);
-    let outside = TickingOutside::new(lines, *threads, ticks(bar));
-    let (ran, said, both) = run_plan_line(threads, rt, &line, outside, sink, both, record);
-    let (report, junit) = both.into_parts();
-    Listened {
-        delivered: Delivered { line, ran, said },
-        report: report.into_report(),
-        junit,
+    match lines.first_line(alloc) {
+        Ok(line) => deliver(threads, rt, line, lines, sink, report, bar, junit, record),
+        Err(error) => Listened {
+            delivered: unread(alloc, sink, error),
+            report,
+            junit,
+        },
     }
 }

@@ -279,27 +279,42 @@ fn show_asked(rt: HostRuntime, asked: &RunWords<'_>) -> u8 {
 // What words ask for.
 enum Asked<'a> {
     Run(RunWords<'a>),
+    Other(Other<'a>),
+}
+
+// What words ask for that aren't those of `run`, or not as they should be.
+enum Other<'a> {
     Show(RunWords<'a>),
     /// This word of `run`, or of `show`, is wrong.
     WrongRun(&'a str),
     WrongShow(&'a str),
     /// Another command.
-    Other,
+    Command,
+}
+
+// What the words after `run` ask for.
+fn run_asked(options: &[String]) -> Asked<'_> {
+    match run_words_of(options) {
+        Ok(asked) => Asked::Run(asked),
+        Err(word) => Asked::Other(Other::WrongRun(word)),
+    }
+}
+
+// What the words after `show` ask for.
+fn other_show(options: &[String]) -> Other<'_> {
+    match show_words_of(options) {
+        Ok(asked) => Other::Show(asked),
+        Err(word) => Other::WrongShow(word),
+    }
 }
 
 fn asked_of(words: Option<&[String]>) -> Asked<'_> {
     match words {
-        Some([command, options @ ..]) if command.as_str() == "run" => match run_words_of(options) {
-            Ok(asked) => Asked::Run(asked),
-            Err(word) => Asked::WrongRun(word),
-        },
+        Some([command, options @ ..]) if command.as_str() == "run" => run_asked(options),
         Some([command, options @ ..]) if command.as_str() == "show" => {
-            match show_words_of(options) {
-                Ok(asked) => Asked::Show(asked),
-                Err(word) => Asked::WrongShow(word),
-            }
+            Asked::Other(other_show(options))
         }
-        _ => Asked::Other,
+        _ => Asked::Other(Other::Command),
     }
 }
 
@@ -311,13 +326,36 @@ fn given(words: &Option<Vec<String>>) -> Option<&[String]> {
     }
 }
 
+// The words that were given, none where one of them is not UTF-8; or the status of what was done in place of a run.
+fn words_of(rt: &HostRuntime) -> Result<Option<Vec<String>>, u8> {
+    match request_of(rt, &COMMANDS) {
+        Request::Help => Err(print(rt, HELP)),
+        Request::Version => Err(print(rt, VERSION)),
+        Request::NoMemory => Err(no_memory(rt)),
+        Request::Run(words) => Ok(Some(words)),
+        Request::NoText => Ok(None),
+    }
+}
+
+// Does what words ask for but `run`, and answers the status.
+fn do_other<X: Threads + Wait + Sync>(
+    threads: &X,
+    rt: HostRuntime,
+    words: Option<&[String]>,
+    other: Other<'_>,
+) -> u8 {
+    match other {
+        Other::Show(asked) => show_asked(rt, &asked),
+        Other::WrongRun(word) => refuse_run(&rt, word),
+        Other::WrongShow(word) => refuse_show(&rt, word),
+        Other::Command => run_words(threads, rt, words),
+    }
+}
+
 fn main(rt: HostRuntime) -> ExitCode {
-    let words = match request_of(&rt, &COMMANDS) {
-        Request::Help => return ExitCode::from(print(&rt, HELP)),
-        Request::Version => return ExitCode::from(print(&rt, VERSION)),
-        Request::NoMemory => return ExitCode::from(no_memory(&rt)),
-        Request::Run(words) => Some(words),
-        Request::NoText => None,
+    let words = match words_of(&rt) {
+        Ok(words) => words,
+        Err(status) => return ExitCode::from(status),
     };
     let words = given(&words);
     let status = match asked_of(words) {
@@ -328,10 +366,7 @@ fn main(rt: HostRuntime) -> ExitCode {
             let listened = run_and_deliver(&rt, rt, lines_of(rt), report, bar, junit, asked.record);
             end_listened(&rt, words.unwrap_or(&[]), asked.junit, listened)
         }
-        Asked::Show(asked) => show_asked(rt, &asked),
-        Asked::WrongRun(word) => refuse_run(&rt, word),
-        Asked::WrongShow(word) => refuse_show(&rt, word),
-        Asked::Other => run_words(&rt, rt, words),
+        Asked::Other(other) => do_other(&rt, rt, words, other),
     };
     ExitCode::from(status)
 }
