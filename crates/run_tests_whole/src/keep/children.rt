@@ -1,5 +1,5 @@
 // Children that are looked at and sent signals: one row for each.
-use crate::keep::given::{BOTH, Given, act, ask, begin, listen, start};
+use crate::keep::given::{BOTH, CountedKeeper, Given, act_all, ask, begin, listen, start};
 use run_capture::{Stream, Text};
 use run_commands::EnvInput;
 use run_drive::Said;
@@ -13,13 +13,23 @@ use std::process::{Abort, Processes};
 use std::sync::Wait;
 use std::time::Clock;
 
+// A row of these tests.
+type Row = (
+    &'static str,
+    &'static str,
+    &'static str,
+    &'static str,
+    ChildExit,
+    u32,
+);
+
 // A script, what is done (see `act`), what it writes to each stream, how it ends, and how many of its streams end.
 // Their standard input is empty. What a child wrote and the ends of its streams are told before its exit. A child that
 // hangs ends by TERM, as its own child does, which holds both streams. A group that ignores TERM ends by KILL, which is
 // sent at once where there is no grace. A child that is stopped hears TERM once it goes on. The exit is told though
 // another process holds both streams: what that writes comes after it, where it writes nothing both stay open, and
 // where it writes without an end the exit isn't waited for.
-const ROWS: [(&str, &str, &str, &str, ChildExit, u32); 9] = [
+const ROWS: [Row; 9] = [
     (
         "cat; echo out; echo err >&2",
         "eg",
@@ -94,25 +104,24 @@ const ROWS: [(&str, &str, &str, &str, ChildExit, u32); 9] = [
     ),
 ];
 
-// Does all acts to a child. Answers whether each went well, with what the child gave.
-fn play(
+// Does all acts to a child of a keeper. Answers whether each went well and none failed, with what the child gave.
+fn played_by<K: CountedKeeper + Drop>(
     rt: &impl Abort,
     alloc: Global,
-    keeper: &mut impl Keeper,
+    keeper: K,
     script: &str,
     acts: &str,
     captured: &[Stream],
 ) -> (bool, Given) {
-    start(rt, alloc, keeper, script, captured);
+    let mut keeper = keeper;
+    start(rt, alloc, &mut keeper, script, captured);
     let mut given = Given::new(alloc);
-    let mut is_well = true;
-    for each in acts.chars() {
-        is_well = is_well && act(rt, alloc, keeper, &mut given, each);
-    }
-    (is_well, given)
+    let is_well = act_all(rt, alloc, &mut keeper, &mut given, acts);
+    let failures = keeper.failures();
+    (is_well && failures == 0, given)
 }
 
-// The same of a keeper that has no failure.
+// The same of a keeper of processes.
 fn played<R: Abort + Processes + Files + Wait + Clock + Eprint + Copy + Drop>(
     rt: R,
     alloc: Global,
@@ -120,17 +129,31 @@ fn played<R: Abort + Processes + Files + Wait + Clock + Eprint + Copy + Drop>(
     acts: &str,
     captured: &[Stream],
 ) -> (bool, Given) {
-    let mut keeper = ProcessKeeper::new(rt, rt);
-    let (is_well, given) = play(&rt, alloc, &mut keeper, script, acts, captured);
-    (is_well && keeper.faults() == 0, given)
+    let keeper = ProcessKeeper::new(rt, rt);
+    played_by(&rt, alloc, keeper, script, acts, captured)
+}
+
+// Whether a child gave what a row says.
+fn is_given(given: &Given, row: &Row) -> bool {
+    given.wrote(row.2, row.3) && given.ended(row.4) && given.ends == row.5
+}
+
+// Whether a row is so.
+fn is_so<R: Abort + Processes + Files + Wait + Clock + Eprint + Copy + Drop>(
+    rt: R,
+    alloc: Global,
+    row: &Row,
+) -> bool {
+    let (is_well, given) = played(rt, alloc, row.0, row.1, &BOTH);
+    let is_given = is_given(&given, row);
+    is_well && is_given
 }
 
 #[test]
 fn children_are_kept(rt: HostRuntime) {
-    for (script, acts, output, errors, exit, ends) in &ROWS {
-        let (is_well, given) = played(rt, rt.alloc(), script, acts, &BOTH);
-        let is_whole = given.wrote(output, errors) && given.ended(*exit) && given.ends == *ends;
-        assert!(rt; is_well && is_whole, "{script}, {acts}");
+    for row in &ROWS {
+        let is_so = is_so(rt, rt.alloc(), row);
+        assert!(rt; is_so, "{}, {}", row.0, row.1);
     }
 }
 
@@ -170,30 +193,41 @@ fn keeps_a_piece(rt: &impl Abort, alloc: Global, keeper: &mut impl Keeper) -> bo
     false
 }
 
-#[test]
-fn a_piece_is_kept(rt: HostRuntime) {
-    let alloc = rt.alloc();
-    let mut keeper = ProcessKeeper::new(rt, rt);
-    start(&rt, alloc, &mut keeper, "echo out; sleep .3", &BOTH);
-    let is_kept = keeps_a_piece(&rt, alloc, &mut keeper);
+// Whether the child's piece is heard after that.
+fn says_a_kept_piece<K: Keeper + Drop>(rt: &impl Abort, alloc: Global, keeper: K) -> bool {
+    let mut keeper = keeper;
+    start(rt, alloc, &mut keeper, "echo out; sleep .3", &BOTH);
+    let is_kept = keeps_a_piece(rt, alloc, &mut keeper);
     let mut given = Given::new(alloc);
-    let is_heard = listen(&rt, alloc, &mut keeper, &mut given, 'p');
-    assert!(rt; is_kept && is_heard && given.wrote("out\n", ""));
+    let is_heard = listen(rt, alloc, &mut keeper, &mut given, 'p');
+    is_kept && is_heard && given.wrote("out\n", "")
 }
 
-// Whether a path to no program, and no word, start nothing.
-fn starts_none(rt: &impl Abort, alloc: Global, keeper: &mut impl Keeper) -> bool {
-    let path = ask(rt, alloc, &["./no-such-program"], &BOTH);
-    let nothing = ask(rt, alloc, &[], &BOTH);
-    let is_path = begin(rt, alloc, keeper, &path).is_none();
-    is_path && begin(rt, alloc, keeper, &nothing).is_none()
+#[test]
+fn a_piece_is_kept(rt: HostRuntime) {
+    let is_kept = says_a_kept_piece(&rt, rt.alloc(), ProcessKeeper::new(rt, rt));
+    assert!(rt; is_kept);
+}
+
+// Whether these words start a child.
+fn starts(rt: &impl Abort, alloc: Global, keeper: &mut impl Keeper, words: &[&str]) -> bool {
+    let ask = ask(rt, alloc, words, &BOTH);
+    begin(rt, alloc, keeper, &ask).is_some()
+}
+
+// Whether a path to no program, and no word, start nothing, and each is a failure.
+fn starts_none<K: CountedKeeper + Drop>(rt: &impl Abort, alloc: Global, keeper: K) -> bool {
+    let mut keeper = keeper;
+    let is_path = starts(rt, alloc, &mut keeper, &["./no-such-program"]);
+    let is_nothing = starts(rt, alloc, &mut keeper, &[]);
+    let failures = keeper.failures();
+    !is_path && !is_nothing && failures == 2
 }
 
 #[test]
 fn what_is_no_program_is_refused(rt: HostRuntime) {
-    let mut keeper = ProcessKeeper::new(rt, rt);
-    let is_refused = starts_none(&rt, rt.alloc(), &mut keeper);
-    assert!(rt; is_refused && keeper.faults() == 2);
+    let is_refused = starts_none(&rt, rt.alloc(), ProcessKeeper::new(rt, rt));
+    assert!(rt; is_refused);
 }
 
 // A script's start, whose environment file this is.
@@ -203,17 +237,32 @@ fn script_ask(rt: &impl Abort, alloc: Global, script: &str, path: &str) -> Start
     ask
 }
 
-// Whether a script hands on these variables.
-fn hands_on(
+// Whether a script is heard to its end.
+fn ends(
     rt: &impl Abort,
     alloc: Global,
     keeper: &mut impl Keeper,
-    ask: &StartAsk,
+    script: &str,
+    path: &str,
+) -> bool {
+    let ask = script_ask(rt, alloc, script, path);
+    let is_started = begin(rt, alloc, keeper, &ask).is_some();
+    drop(ask);
+    let mut given = Given::new(alloc);
+    is_started && listen(rt, alloc, keeper, &mut given, 'x')
+}
+
+// Whether a script hands on these variables.
+fn hands_on<K: Keeper + Drop>(
+    rt: &impl Abort,
+    alloc: Global,
+    keeper: K,
+    script: &str,
+    path: &str,
     wanted: &[u8],
 ) -> bool {
-    let mut given = Given::new(alloc);
-    let is_started = begin(rt, alloc, keeper, ask).is_some();
-    let is_heard = is_started && listen(rt, alloc, keeper, &mut given, 'x');
+    let mut keeper = keeper;
+    let is_heard = ends(rt, alloc, &mut keeper, script, path);
     match keeper.read_env(alloc) {
         Ok(EnvInput::Bytes(bytes)) => is_heard && bytes.as_slice() == wanted,
         _ => false,
@@ -223,11 +272,10 @@ fn hands_on(
 // The file is emptied before the script starts.
 #[test]
 fn a_script_hands_on_its_variables(rt: HostRuntime) {
-    let alloc = rt.alloc();
-    let mut keeper = ProcessKeeper::new(rt, rt);
     let is_written = fs::write(&rt, "keep.tmp", "B=2\n").is_ok();
-    let ask = script_ask(&rt, alloc, "printf 'A=1\\n' >> keep.tmp", "keep.tmp");
-    let is_handed = hands_on(&rt, alloc, &mut keeper, &ask, b"A=1\n");
+    let script = "printf 'A=1\\n' >> keep.tmp";
+    let keeper = ProcessKeeper::new(rt, rt);
+    let is_handed = hands_on(&rt, rt.alloc(), keeper, script, "keep.tmp", b"A=1\n");
     let is_removed = fs::remove_file(&rt, "keep.tmp").is_ok();
     assert!(rt; is_written && is_handed && is_removed);
 }

@@ -3,14 +3,30 @@ use run_capture::{Blob, List, Stream, Text};
 use run_drive::{Begun, Said};
 use run_events::{ChildExit, ChildSignal, SignalAsk, StartAsk, TermSignal, Variables};
 use run_keep::{Keeper, Sent};
+use run_keep_host::ProcessKeeper;
 use std::alloc::Global;
-use std::process::Abort;
+use std::fs::Files;
+use std::process::{Abort, Processes};
+use std::sync::Wait;
+use std::time::Clock;
 
 /// What is said where memory is wanting.
 pub const MEMORY: &str = "memory";
 
 /// Both streams, each by itself.
 pub const BOTH: [Stream; 2] = [Stream::Stdout, Stream::Stderr];
+
+/// A keeper that counts its failures. Tests take one by value as a type parameter: so it is one piece in their proofs.
+pub trait CountedKeeper: Keeper {
+    fn failures(&self) -> u64;
+}
+
+impl<P: Processes + Files + Eprint + Drop, X: Wait + Clock + Drop> CountedKeeper
+    for ProcessKeeper<P, X> {
+    fn failures(&self) -> u64 {
+        self.faults()
+    }
+}
 
 // How many looks a child gets at most for one act, each of 10 ms at most.
 const LOOKS: u32 = 1000;
@@ -202,10 +218,10 @@ pub fn send(rt: &impl Abort, alloc: Global, keeper: &mut impl Keeper, act: char)
     keeper.send(alloc, &ask).expect(rt, MEMORY)
 }
 
-/// Does one act, and answers whether it went well: `p`, `x` and `e` hear the child until it has written, ended, and
-/// closed both its streams too; `q` hears that it says nothing, `g` that no signal is sent to it any more; a capital
-/// letter sends it a signal.
-pub fn act(
+// Does one act, and answers whether it went well: `p`, `x` and `e` hear the child until it has written, ended, and
+// closed both its streams too; `q` hears that it says nothing, `g` that no signal is sent to it any more; a capital
+// letter sends it a signal.
+fn act(
     rt: &impl Abort,
     alloc: Global,
     keeper: &mut impl Keeper,
@@ -218,4 +234,32 @@ pub fn act(
         'g' => matches!(send(rt, alloc, keeper, 'T'), Sent::Gone),
         _ => matches!(send(rt, alloc, keeper, act), Sent::Sent),
     }
+}
+
+/// Does acts one after the other, and answers whether each went well: none is done after one that didn't.
+pub fn act_all(
+    rt: &impl Abort,
+    alloc: Global,
+    keeper: &mut impl Keeper,
+    given: &mut Given,
+    acts: &str,
+) -> bool {
+    let mut is_well = true;
+    for each in acts.chars() {
+        is_well = is_well && act(rt, alloc, keeper, given, each);
+    }
+    is_well
+}
+
+/// Whether acts go well, and the child has written just this to its standard output then.
+pub fn writes(
+    rt: &impl Abort,
+    alloc: Global,
+    keeper: &mut impl Keeper,
+    acts: &str,
+    output: &str,
+) -> bool {
+    let mut given = Given::new(alloc);
+    let is_well = act_all(rt, alloc, keeper, &mut given, acts);
+    is_well && given.wrote(output, "")
 }

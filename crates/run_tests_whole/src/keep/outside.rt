@@ -1,4 +1,5 @@
 // The outside as lines.
+use run_capture::Blob;
 use run_events::Signal;
 use run_keep::{Came, Outside};
 use run_keep_host::{FirstLineError, LineOutside};
@@ -99,17 +100,24 @@ fn a_first_line_may_be_the_last(rt: HostRuntime) {
     assert!(rt; is_line && is_none);
 }
 
-// What comes of the first line of an input: a letter for each answer.
-fn first_of<P: Eprint + Drop>(outside: P, alloc: Global, reads: u32, fails: bool) -> char {
-    let byte = b'x';
-    let input = Again { byte, reads, fails };
-    match LineOutside::new(outside, alloc, input).first_line(alloc) {
+// A letter for each answer.
+fn letter_of(first: &Result<Blob, FirstLineError>) -> char {
+    match first {
         Ok(line) if line.len() > 0 => 'l',
         Ok(_) => 'e',
         Err(FirstLineError::Read) => 'r',
         Err(FirstLineError::TooLong) => 't',
         Err(FirstLineError::OutOfMemory) => 'm',
     }
+}
+
+// What comes of the first line of an input: a letter.
+fn first_of<P: Eprint + Drop>(outside: P, alloc: Global, reads: u32, fails: bool) -> char {
+    let byte = b'x';
+    let input = Again { byte, reads, fails };
+    let mut outside = LineOutside::new(outside, alloc, input);
+    let first = outside.first_line(alloc);
+    letter_of(&first)
 }
 
 // How often the input can be read, whether it fails then, and what comes of that.

@@ -1,10 +1,12 @@
 // A recorded run of one test: what the sink of its record has taken is the whole store of its journal.
-use crate::whole::gate::{CountingHost, WaitingOutside};
+ghost use Rattle.std.specs.Prelude.{[]};
+
+use crate::whole::gate::{Count, CountingHost, WaitingOutside};
 use crate::whole::given::{MEMORY, keepers, nothing};
 use crate::whole::rows::QUIET;
 use run_capture::{List, MemorySink};
 use run_events::ReporterEvent;
-use run_keep::MemoryHalter;
+use run_keep::{Halter, KeeperHost, MemoryHalter, Outside};
 use run_record::{RecordOutcome, Recorded, run_recorded};
 use run_report::Listener;
 use run_store_io::read_stored;
@@ -14,7 +16,6 @@ use std::alloc::Global;
 use std::process::Abort;
 use std::sync::Wait;
 use std::thread::Threads;
-use std::time::Clock;
 
 const PLAN: &str = "{\"run_id\":\"00000000-0000-4000-8000-000000000001\",\
     \"tests\":[{\"binary\":\"b\",\"command\":[\"true\"],\"name\":\"t\"}]}";
@@ -54,28 +55,16 @@ fn taken<W, T, O, S>(left: &Option<WholeLeft<W, T, O, S>>) -> Option<usize> {
     }
 }
 
-// Whether a run is recorded as it was.
-fn is_recorded<X: Abort + Threads + Wait + Sync + Clock + Copy + Send + Drop>(
-    rt: X,
+// Whether a record has as many turns as were taken.
+fn has_all(alloc: Global, bytes: &[u8], turns: Option<usize>) -> bool {
+    turns.is_some() && stored(alloc, bytes) == turns
+}
+
+// Whether a run ended well, and is recorded as it was.
+fn is_whole<K: Drop, W: Drop, T: Drop, O: Drop, S: Drop, B: Drop>(
     alloc: Global,
+    recorded: Recorded<K, MemorySink, WholeLeft<W, T, O, S>, B>,
 ) -> bool {
-    let count = nothing(&rt, alloc);
-    let mut host = CountingHost {
-        clock: rt,
-        keepers: keepers(&rt, alloc, &QUIET, &count),
-    };
-    let outside = WaitingOutside {
-        signals: List::new(),
-        at: 0,
-        asked: 0,
-        count,
-    };
-    let around = Around {
-        outside,
-        halter: MemoryHalter::new(),
-    };
-    let (lines, store) = (sink(&rt, alloc), sink(&rt, alloc));
-    let line = PLAN.as_bytes();
     let Recorded {
         ran,
         own,
@@ -83,19 +72,54 @@ fn is_recorded<X: Abort + Threads + Wait + Sync + Clock + Copy + Send + Drop>(
         store,
         left,
         report,
-    } = run_recorded(&rt, alloc, line, lines, store, Heedless, &mut host, around);
+    } = recorded;
     drop(report);
+    let turns = taken(&left);
+    drop(left);
     let Ran { status, sink } = ran;
     drop(sink);
-    let turns = taken(&left);
-    matches!(outcome, RecordOutcome::Recorded)
-        && status == 0
-        && own == 0
-        && turns.is_some()
-        && stored(alloc, store.bytes()) == turns
+    let has_all = has_all(alloc, store.bytes(), turns);
+    drop(store);
+    matches!(outcome, RecordOutcome::Recorded) && status == 0 && own == 0 && has_all
+}
+
+// Whether a run on a host is recorded as it was.
+fn is_recorded_on<
+    H: KeeperHost + Drop,
+    O: Outside + Send + Drop,
+    S: Halter + Send + Drop,
+    X: Abort + Threads + Wait + Sync,
+>(rt: &X, alloc: Global, host: H, around: Around<O, S>) -> bool
+    requires quiet { O.has_come around.outside [] }
+    requires runs { S.has_halted around.halter 0 }
+{
+    let mut host = host;
+    let (lines, store) = (sink(rt, alloc), sink(rt, alloc));
+    let line = PLAN.as_bytes();
+    let recorded = run_recorded(rt, alloc, line, lines, store, Heedless, &mut host, around);
+    is_whole(alloc, recorded)
+}
+
+// An outside of which nothing comes, and a halter.
+fn silence(count: Count) -> Around<WaitingOutside, MemoryHalter>
+    ensures { ⟦<MemoryHalter as Halter>⟧.has_halted result.halter 0 }
+{
+    let outside = WaitingOutside {
+        signals: List::new(),
+        at: 0,
+        asked: 0,
+        count,
+    };
+    let halter = MemoryHalter::new();
+    Around { outside, halter }
 }
 
 #[test]
 fn a_run_is_recorded(rt: HostRuntime) {
-    assert!(rt; is_recorded(rt, rt.alloc()));
+    let alloc = rt.alloc();
+    let count = nothing(&rt, alloc);
+    let keepers = keepers(&rt, alloc, &QUIET, &count);
+    let host = CountingHost { clock: rt, keepers };
+    let is_recorded = is_recorded_on(&rt, alloc, host, silence(count));
+    assert!(rt; is_recorded);
 }
