@@ -8,7 +8,7 @@ mod TestLemmas
 mod AcceptLemmas
 mod RunLemmas
 mod WaveLemmas
-mod OneLemmas
+pub mod OneLemmas
 mod ComesLemmas
 mod DueLemmas
 mod NextLemmas

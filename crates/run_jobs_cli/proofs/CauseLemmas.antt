@@ -25,7 +25,7 @@ use Rattle.run_cli.proofs.EndLemmas.{rose_then, some_is}
 use Rattle.run_jobs_cli.specs.declared.fault.JobsFault.{JobsFault}
 use Rattle.run_jobs_cli.specs.declared.fault.JobsFault.TheVariants as faults
 use Rattle.run_jobs_cli.specs.Faults.{jobs_fault_status}
-use Rattle.run_jobs_cli.specs.JobsCauses.{GetsJobs, IsStatesStatus, jobs_statuses}
+use Rattle.run_jobs_cli.specs.JobsCauses.{GetsBy, GetsJobs, GetsStates, IsStatesStatus, jobs_statuses}
 use Rattle.run_jobs_cli.specs.JobsEnds.{EndsAtJobsFault, EndsAtStates}
 use Rattle.run_jobs_cli.specs.JobsGiven.{AreBadJobs, AreGoodJobs, GivesLines, IsJobsFault, refusal_fault}
 use Rattle.run_jobs_cli.specs.RunsJobs.{IsWavesEnd, RunsJobs, waves_status}
@@ -35,10 +35,10 @@ use Rattle.run_jobs_cli.proofs.SaidLemmas.{jobs_or_bad, one_batch, same_lines}
 
 -- ---- statuses
 
-listed : (k status : ℕ) → k < 13 → slice_index_or jobs_statuses k status ≡ status → Contains jobs_statuses status
+pub listed : (k status : ℕ) → k < 13 → slice_index_or jobs_statuses k status ≡ status → Contains jobs_statuses status
 listed k status within is = (k, within, is)
 
-fault_gets : (w : Writing) (fault : JobsFault) (status : ℕ) → EndsAtJobsFault w [] fault status
+pub fault_gets : (w : Writing) (fault : JobsFault) (status : ℕ) → EndsAtJobsFault w [] fault status
     → Gets status (jobs_fault_status fault)
 fault_gets w fault status (inl (is, short)) = inr is
 fault_gets w fault status (inr (is, le, writes)) = inl is
@@ -65,7 +65,7 @@ plain_one : (n : ℕ) → Contains jobs_statuses n → (n ≡ 10 → ⊥) → (n
 plain_one n known ten nine some four below =
     record { known = known; not_read = ten; not_unwritten = nine; not_states = far_from n some four below }
 
-plain_11 : IsPlain 11
+pub plain_11 : IsPlain 11
 plain_11 =
     plain_one 11 (listed 9 11 (omega arith) refl) (λ e. omega arith) (λ e. omega arith) (omega arith)
     (λ e. omega arith) (omega arith)
@@ -84,17 +84,17 @@ plain_5 =
     plain_one 5 (listed 3 5 (omega arith) refl) (λ e. omega arith) (λ e. omega arith) (omega arith)
     (λ e. omega arith) (omega arith)
 
-plain_6 : IsPlain 6
+pub plain_6 : IsPlain 6
 plain_6 =
     plain_one 6 (listed 4 6 (omega arith) refl) (λ e. omega arith) (λ e. omega arith) (omega arith)
     (λ e. omega arith) (omega arith)
 
-plain_7 : IsPlain 7
+pub plain_7 : IsPlain 7
 plain_7 =
     plain_one 7 (listed 5 7 (omega arith) refl) (λ e. omega arith) (λ e. omega arith) (omega arith)
     (λ e. omega arith) (omega arith)
 
-plain_8 : IsPlain 8
+pub plain_8 : IsPlain 8
 plain_8 =
     plain_one 8 (listed 6 8 (omega arith) refl) (λ e. omega arith) (λ e. omega arith) (omega arith)
     (λ e. omega arith) (omega arith)
@@ -104,7 +104,7 @@ plain_12 =
     plain_one 12 (listed 10 12 (omega arith) refl) (λ e. omega arith) (λ e. omega arith) (omega arith)
     (λ e. omega arith) (omega arith)
 
-plain_14 : IsPlain 14
+pub plain_14 : IsPlain 14
 plain_14 =
     plain_one 14 (listed 11 14 (omega arith) refl) (λ e. omega arith) (λ e. omega arith) (omega arith)
     (λ e. omega arith) (omega arith)
@@ -112,20 +112,20 @@ plain_14 =
 -- ---- a source that was read
 
 -- the causes of what lines say
-pub record GetsLines (lines : List (List ℕ)) (w : Writing) (status : ℕ) : Type 0 where
+pub record GetsLines (Comes : Batch → List (List Turn) → ℕ → Type 0) (lines : List (List ℕ)) (w : Writing) (status : ℕ)
+    : Type 0 where
   pub bad : (number : ℕ) → IsFirstBadJobs lines number → Gets status 3
   pub refused : (batch : Batch) (lists : List (List Turn)) → IsJobsInput lines batch lists → (e : JobsError)
       → jobs_fault batch.threads batch.jobs ≡ Some e → Gets status 5
   pub came : (batch : Batch) (lists : List (List Turn)) → IsJobsInput lines batch lists
-      → jobs_fault batch.threads batch.jobs ≡ None → ¬ HasWriteFault w
-      → (answer : Result (List JobState) (WavesError Failed)) → ComesTo batch lists answer
-      → Gets status (waves_status answer)
+      → jobs_fault batch.threads batch.jobs ≡ None → ¬ HasWriteFault w → Comes batch lists status
 
-gets_given : (r : Reading) (w : Writing) (status : ℕ) (Given : List (List ℕ) → Type 0) → (g : GivesLines r Given)
+gets_given : (Comes : Batch → List (List Turn) → ℕ → Type 0) (r : Reading) (w : Writing) (status : ℕ)
+    (Given : List (List ℕ) → Type 0) → (g : GivesLines r Given)
     → Contains jobs_statuses status → (status ≡ 10 → ⊥) → (status ≡ 9 → HasWriteFault w)
-    → (IsStatesStatus status → w.faults_after ≡ w.faults) → GetsLines (lines_of g.bytes) w status
-    → GetsJobs r w status
-gets_given r w status Given g known never unwritten written gets =
+    → (IsStatesStatus status → w.faults_after ≡ w.faults) → GetsLines Comes (lines_of g.bytes) w status
+    → GetsBy Comes r w status
+gets_given Comes r w status Given g known never unwritten written gets =
     let calm = g.calm in
     record {
       known = known;
@@ -137,26 +137,28 @@ gets_given r w status Given g known never unwritten written gets =
           let within = g.all.within in absurd (omega arith);
       bad_line = λ still number has. gets.bad number (same_lines r _ Given has g);
       refused = λ still batch lists has e is. gets.refused batch lists (same_lines r _ Given has g) e is;
-      came = λ still batch lists has is quiet answer comes.
-          gets.came batch lists (same_lines r _ Given has g) is quiet answer comes;
+      came = λ still batch lists has is quiet.
+          gets.came batch lists (same_lines r _ Given has g) is quiet;
       unwritten = unwritten;
       written = written;
     }
 
-gets_plain : (r : Reading) (w : Writing) (status : ℕ) (Given : List (List ℕ) → Type 0) → (g : GivesLines r Given)
-    → IsPlain status → GetsLines (lines_of g.bytes) w status → GetsJobs r w status
-gets_plain r w status Given g x gets =
-    gets_given r w status Given g x.known x.not_read (λ is. absurd (x.not_unwritten is))
+gets_plain : (Comes : Batch → List (List Turn) → ℕ → Type 0) (r : Reading) (w : Writing) (status : ℕ)
+    (Given : List (List ℕ) → Type 0) → (g : GivesLines r Given)
+    → IsPlain status → GetsLines Comes (lines_of g.bytes) w status → GetsBy Comes r w status
+gets_plain Comes r w status Given g x gets =
+    gets_given Comes r w status Given g x.known x.not_read (λ is. absurd (x.not_unwritten is))
     (λ is. absurd (x.not_states is)) gets
 
 -- a bad line
-line_gets : (r : Reading) (w : Writing) (status number : ℕ) → GivesLines r (λ lines. IsFirstBadJobs lines number)
-    → Gets status 3 → GetsJobs r w status
-line_gets r w status number g is =
-    gets_plain r w status (λ lines. IsFirstBadJobs lines number) g (plain_by status 3 is plain_3) (record {
+line_gets : (Comes : Batch → List (List Turn) → ℕ → Type 0) (r : Reading) (w : Writing) (status number : ℕ)
+    → GivesLines r (λ lines. IsFirstBadJobs lines number)
+    → Gets status 3 → GetsBy Comes r w status
+line_gets Comes r w status number g is =
+    gets_plain Comes r w status (λ lines. IsFirstBadJobs lines number) g (plain_by status 3 is plain_3) (record {
       bad = λ n bad. is;
       refused = λ batch lists says e fault. jobs_or_bad (lines_of g.bytes) batch lists number says g.holds;
-      came = λ batch lists says none quiet answer comes.
+      came = λ batch lists says none quiet.
           jobs_or_bad (lines_of g.bytes) batch lists number says g.holds;
     })
 
@@ -169,16 +171,17 @@ refusal_status threads list (jobs.BadAfter job after) status is gets = gets
 refusal_status threads list jobs.OutOfMemory status is (inl eleven) = inr eleven
 refusal_status threads list jobs.OutOfMemory status is (inr eleven) = inr eleven
 
-jobs_gets : (r : Reading) (w : Writing) (status : ℕ) (fault : JobsFault)
-    → GivesLines r (λ lines. AreBadJobs lines fault) → Gets status (jobs_fault_status fault) → GetsJobs r w status
-jobs_gets r w status fault g gets =
+jobs_gets : (Comes : Batch → List (List Turn) → ℕ → Type 0) (r : Reading) (w : Writing) (status : ℕ)
+    (fault : JobsFault)
+    → GivesLines r (λ lines. AreBadJobs lines fault) → Gets status (jobs_fault_status fault) → GetsBy Comes r w status
+jobs_gets Comes r w status fault g gets =
     let x = g.holds in
     let five : Gets status 5 = refusal_status x.0.threads x.0.jobs x.3.0 status x.3.1
     (subst (λ f. Gets status (jobs_fault_status f)) x.3.2 gets) in
-    gets_plain r w status (λ lines. AreBadJobs lines fault) g (plain_by status 5 five plain_5) (record {
+    gets_plain Comes r w status (λ lines. AreBadJobs lines fault) g (plain_by status 5 five plain_5) (record {
       bad = λ n bad. jobs_or_bad (lines_of g.bytes) x.0 x.1 n x.2 bad;
       refused = λ batch lists says e is. five;
-      came = λ batch lists says none quiet answer comes.
+      came = λ batch lists says none quiet.
           let same = one_batch (lines_of g.bytes) x.0 batch x.1 lists x.2 says in
           never_refused (jobs_fault x.0.threads x.0.jobs) x.3.0
           (subst (λ (b : Batch). jobs_fault b.threads b.jobs ≡ None) same.0 none) x.3.1;
@@ -186,15 +189,16 @@ jobs_gets r w status fault g gets =
 
 -- ---- a source that was not read
 
-read_gets : (r : Reading) (w : Writing) (status : ℕ) → HasReadFault r → Gets status 10 → GetsJobs r w status
-read_gets r w status rose gets = record {
+read_gets : (Comes : Batch → List (List Turn) → ℕ → Type 0) (r : Reading) (w : Writing) (status : ℕ)
+    → HasReadFault r → Gets status 10 → GetsBy Comes r w status
+read_gets Comes r w status rose gets = record {
   known = known_by status 10 gets (listed 8 10 (omega arith) refl);
   unread = λ lt. gets;
   read = λ is. rose;
   too_much = λ still much. absurd (still rose);
   bad_line = λ still number has. absurd (still rose);
   refused = λ still batch lists has e is. absurd (still rose);
-  came = λ still batch lists has none quiet answer comes. absurd (still rose);
+  came = λ still batch lists has none quiet. absurd (still rose);
   unwritten = λ is. absurd (ten_or_nine gets is);
   written = λ is. absurd (ten_or_states gets is);
 }
@@ -207,9 +211,10 @@ read_gets r w status rose gets = record {
     ten_or_states (inl ten) states = far_from status (omega arith) (λ e. omega arith) (omega arith) states
     ten_or_states (inr eleven) states = far_from status (omega arith) (λ e. omega arith) (omega arith) states
 
-long_gets : (r : Reading) (w : Writing) (status : ℕ) → IsTooLong r → r.faults_after ≡ r.faults → Gets status 12
-    → GetsJobs r w status
-long_gets r w status long calm gets =
+long_gets : (Comes : Batch → List (List Turn) → ℕ → Type 0) (r : Reading) (w : Writing) (status : ℕ) → IsTooLong r
+    → r.faults_after ≡ r.faults → Gets status 12
+    → GetsBy Comes r w status
+long_gets Comes r w status long calm gets =
     let x = plain_by status 12 gets plain_12 in
     record {
       known = x.known;
@@ -218,15 +223,16 @@ long_gets r w status long calm gets =
       too_much = λ still much. gets;
       bad_line = λ still number has. absurd (not_too_long r has.bytes has.told has.within long);
       refused = λ still batch lists has e is. absurd (not_too_long r has.bytes has.told has.within long);
-      came = λ still batch lists has none quiet answer comes.
+      came = λ still batch lists has none quiet.
           absurd (not_too_long r has.bytes has.told has.within long);
       unwritten = λ is. absurd (x.not_unwritten is);
       written = λ is. absurd (x.not_states is);
     }
 
-memory_gets : (r : Reading) (w : Writing) (status : ℕ) → r.faults_after ≡ r.faults → status ≡ 11
-    → GetsJobs r w status
-memory_gets r w status calm is =
+memory_gets : (Comes : Batch → List (List Turn) → ℕ → Type 0) (r : Reading) (w : Writing) (status : ℕ)
+    → ((batch : Batch) (lists : List (List Turn)) → Comes batch lists 11) → r.faults_after ≡ r.faults → status ≡ 11
+    → GetsBy Comes r w status
+memory_gets Comes r w status eleven calm is =
     let x : IsPlain status = subst IsPlain (sym is) plain_11 in
     record {
       known = x.known;
@@ -235,46 +241,49 @@ memory_gets r w status calm is =
       too_much = λ still much. inr is;
       bad_line = λ still number has. inr is;
       refused = λ still batch lists has e fault. inr is;
-      came = λ still batch lists has none quiet answer comes. inr is;
+      came = λ still batch lists has none quiet. subst (Comes batch lists) (sym is) (eleven batch lists);
       unwritten = λ nine. absurd (x.not_unwritten nine);
       written = λ states. absurd (x.not_states states);
     }
 
-same_eleven : (status : ℕ) → Gets status 11 → status ≡ 11
+pub same_eleven : (status : ℕ) → Gets status 11 → status ≡ 11
 same_eleven status (inl is) = is
 same_eleven status (inr is) = is
 
 -- a fault before the first wave gets its status
-pub fault_causes : (r : Reading) (w : Writing) (fault : JobsFault) (status : ℕ) → IsJobsFault r fault
-    → EndsAtJobsFault w [] fault status → GetsJobs r w status
-fault_causes r w (faults.Plain plain.Read) status why ends =
-    read_gets r w status why.1 (fault_gets w (faults.Plain plain.Read) status ends)
-fault_causes r w (faults.Plain plain.TooLong) status why ends =
-    long_gets r w status why.0 why.1 (fault_gets w (faults.Plain plain.TooLong) status ends)
-fault_causes r w (faults.Plain plain.Memory) status why ends =
-    memory_gets r w status why (same_eleven status (fault_gets w (faults.Plain plain.Memory) status ends))
-fault_causes r w (faults.Plain (plain.Line number)) status why ends =
-    line_gets r w status number why (fault_gets w (faults.Plain (plain.Line number)) status ends)
-fault_causes r w (faults.Plain plain.Words) status why ends = absurd why.holds
-fault_causes r w (faults.Plain (plain.Plan fault)) status why ends = absurd why.holds
-fault_causes r w (faults.Plain (plain.NotEnabled turn)) status why ends = absurd why.holds
-fault_causes r w (faults.Plain (plain.ThirdSignal turn)) status why ends = absurd why.holds
-fault_causes r w (faults.Plain plain.Unfinished) status why ends = absurd why.holds
-fault_causes r w (faults.Plain plain.Report) status why ends = absurd why.holds
-fault_causes r w faults.ZeroThreads status why ends =
-    jobs_gets r w status faults.ZeroThreads why (fault_gets w faults.ZeroThreads status ends)
-fault_causes r w (faults.DuplicateName job) status why ends =
-    jobs_gets r w status (faults.DuplicateName job) why (fault_gets w (faults.DuplicateName job) status ends)
-fault_causes r w (faults.BadAfter job) status why ends =
-    jobs_gets r w status (faults.BadAfter job) why (fault_gets w (faults.BadAfter job) status ends)
-fault_causes r w (faults.NotEnabled turn wave) status why ends =
-    jobs_gets r w status (faults.NotEnabled turn wave) why (fault_gets w (faults.NotEnabled turn wave) status ends)
-fault_causes r w (faults.ThirdSignal turn wave) status why ends =
-    jobs_gets r w status (faults.ThirdSignal turn wave) why (fault_gets w (faults.ThirdSignal turn wave) status ends)
-fault_causes r w (faults.Unfinished wave) status why ends =
-    jobs_gets r w status (faults.Unfinished wave) why (fault_gets w (faults.Unfinished wave) status ends)
-fault_causes r w (faults.Extra due given) status why ends =
-    jobs_gets r w status (faults.Extra due given) why (fault_gets w (faults.Extra due given) status ends)
+pub fault_causes : (Comes : Batch → List (List Turn) → ℕ → Type 0) (r : Reading) (w : Writing) (fault : JobsFault)
+    (status : ℕ) → ((batch : Batch) (lists : List (List Turn)) → Comes batch lists 11) → IsJobsFault r fault
+    → EndsAtJobsFault w [] fault status → GetsBy Comes r w status
+fault_causes Comes r w (faults.Plain plain.Read) status eleven why ends =
+    read_gets Comes r w status why.1 (fault_gets w (faults.Plain plain.Read) status ends)
+fault_causes Comes r w (faults.Plain plain.TooLong) status eleven why ends =
+    long_gets Comes r w status why.0 why.1 (fault_gets w (faults.Plain plain.TooLong) status ends)
+fault_causes Comes r w (faults.Plain plain.Memory) status eleven why ends =
+    memory_gets Comes r w status eleven why (same_eleven status (fault_gets w (faults.Plain plain.Memory) status ends))
+fault_causes Comes r w (faults.Plain (plain.Line number)) status eleven why ends =
+    line_gets Comes r w status number why (fault_gets w (faults.Plain (plain.Line number)) status ends)
+fault_causes Comes r w (faults.Plain plain.Words) status eleven why ends = absurd why.holds
+fault_causes Comes r w (faults.Plain (plain.Plan fault)) status eleven why ends = absurd why.holds
+fault_causes Comes r w (faults.Plain (plain.NotEnabled turn)) status eleven why ends = absurd why.holds
+fault_causes Comes r w (faults.Plain (plain.ThirdSignal turn)) status eleven why ends = absurd why.holds
+fault_causes Comes r w (faults.Plain plain.Unfinished) status eleven why ends = absurd why.holds
+fault_causes Comes r w (faults.Plain plain.Report) status eleven why ends = absurd why.holds
+fault_causes Comes r w faults.ZeroThreads status eleven why ends =
+    jobs_gets Comes r w status faults.ZeroThreads why (fault_gets w faults.ZeroThreads status ends)
+fault_causes Comes r w (faults.DuplicateName job) status eleven why ends =
+    jobs_gets Comes r w status (faults.DuplicateName job) why (fault_gets w (faults.DuplicateName job) status ends)
+fault_causes Comes r w (faults.BadAfter job) status eleven why ends =
+    jobs_gets Comes r w status (faults.BadAfter job) why (fault_gets w (faults.BadAfter job) status ends)
+fault_causes Comes r w (faults.NotEnabled turn wave) status eleven why ends =
+    jobs_gets Comes r w status (faults.NotEnabled turn wave) why
+    (fault_gets w (faults.NotEnabled turn wave) status ends)
+fault_causes Comes r w (faults.ThirdSignal turn wave) status eleven why ends =
+    jobs_gets Comes r w status (faults.ThirdSignal turn wave) why
+    (fault_gets w (faults.ThirdSignal turn wave) status ends)
+fault_causes Comes r w (faults.Unfinished wave) status eleven why ends =
+    jobs_gets Comes r w status (faults.Unfinished wave) why (fault_gets w (faults.Unfinished wave) status ends)
+fault_causes Comes r w (faults.Extra due given) status eleven why ends =
+    jobs_gets Comes r w status (faults.Extra due given) why (fault_gets w (faults.Extra due given) status ends)
 
 -- ---- jobs that ran
 
@@ -301,7 +310,7 @@ shows_states w before list states status (inl (is, took, calm)) =
 shows_states w before list states status (inr (inl (is, front, le, rose))) = failed is rose
 shows_states w before list states status (inr (inr (is, short))) = other (subst IsPlain (sym is) plain_11)
 
-shows_fault : (w : Writing) (before : List ℕ) (fault : JobsFault) (status : ℕ) → IsPlain (jobs_fault_status fault)
+pub shows_fault : (w : Writing) (before : List ℕ) (fault : JobsFault) (status : ℕ) → IsPlain (jobs_fault_status fault)
     → EndsAtJobsFault w before fault status → IsPlain status
 shows_fault w before fault status x (inl (is, short)) = subst IsPlain (sym is) plain_11
 shows_fault w before fault status x (inr (is, le, writes)) = subst IsPlain (sym is) x
@@ -333,31 +342,41 @@ shows_end batch lists w status (Err (errors.Extra given due_count)) (waves, ran,
     other (shows_fault w _ (faults.Extra due_count given) status plain_14 ends)
 shows_end batch lists w status (Err errors.OutOfMemory) eleven = other (subst IsPlain (sym eleven) plain_11)
 
-shown_gets : (r : Reading) (w : Writing) (status : ℕ) (Given : List (List ℕ) → Type 0) → (g : GivesLines r Given)
-    → GetsLines (lines_of g.bytes) w status → ShowsSink w status → GetsJobs r w status
-shown_gets r w status Given g gets (whole known states calm) =
-    gets_given r w status Given g known (λ is. far_from status (omega arith) (λ e. omega arith) (omega arith) states)
+shown_gets : (Comes : Batch → List (List Turn) → ℕ → Type 0) (r : Reading) (w : Writing) (status : ℕ)
+    (Given : List (List ℕ) → Type 0) → (g : GivesLines r Given)
+    → GetsLines Comes (lines_of g.bytes) w status → ShowsSink w status → GetsBy Comes r w status
+shown_gets Comes r w status Given g gets (whole known states calm) =
+    gets_given Comes r w status Given g known
+    (λ is. far_from status (omega arith) (λ e. omega arith) (omega arith) states)
     (λ is. absurd (far_from status (omega arith) (λ e. omega arith) (omega arith) states)) (λ s. calm) gets
-shown_gets r w status Given g gets (failed is rose) =
-    gets_given r w status Given g (subst (Contains jobs_statuses) (sym is) (listed 7 9 (omega arith) refl))
+shown_gets Comes r w status Given g gets (failed is rose) =
+    gets_given Comes r w status Given g (subst (Contains jobs_statuses) (sym is) (listed 7 9 (omega arith) refl))
     (λ ten. omega arith) (λ nine. rose)
     (λ states. absurd (far_from status (omega arith) (λ e. omega arith) (omega arith) states)) gets
-shown_gets r w status Given g gets (other x) = gets_plain r w status Given g x gets
+shown_gets Comes r w status Given g gets (other x) = gets_plain Comes r w status Given g x gets
 
--- jobs that are taken get the status of what their lists come to
-pub run_causes : (r : Reading) (w : Writing) (batch : Batch) (lists : List (List Turn)) (status : ℕ)
-    → GivesLines r (λ lines. AreGoodJobs lines batch lists) → RunsJobs batch lists w status
-    → (¬ HasWriteFault w → (answer : Result (List JobState) (WavesError Failed)) → ComesTo batch lists answer
-    → Gets status (waves_status answer)) → GetsJobs r w status
-run_causes r w batch lists status g (answer, ends) comes =
+-- jobs that are taken get the status that their lists give
+pub taken_gets : (Comes : Batch → List (List Turn) → ℕ → Type 0) (r : Reading) (w : Writing) (batch : Batch)
+    (lists : List (List Turn)) (status : ℕ) → GivesLines r (λ lines. AreGoodJobs lines batch lists)
+    → (¬ HasWriteFault w → Comes batch lists status) → ShowsSink w status → GetsBy Comes r w status
+taken_gets Comes r w batch lists status g comes shows =
     let x = g.holds in
-    shown_gets r w status (λ lines. AreGoodJobs lines batch lists) g (record {
+    shown_gets Comes r w status (λ lines. AreGoodJobs lines batch lists) g (record {
       bad = λ n bad. jobs_or_bad (lines_of g.bytes) batch lists n x.0 bad;
       refused = λ b ls says e is.
           let same = one_batch (lines_of g.bytes) batch b lists ls x.0 says in
           never_refused (jobs_fault batch.threads batch.jobs) e x.1
           (subst (λ (c : Batch). jobs_fault c.threads c.jobs ≡ Some e) same.0 is);
-      came = λ b ls says none quiet result comes_to.
+      came = λ b ls says none quiet.
           let same = one_batch (lines_of g.bytes) batch b lists ls x.0 says in
-          comes quiet result (rw (same.0, same.1) at comes_to);
-    }) (shows_end batch lists w status answer ends)
+          subst (λ c. Comes c ls status) (sym same.0) (subst (λ l. Comes batch l status) (sym same.1) (comes quiet));
+    }) shows
+
+pub run_causes : (r : Reading) (w : Writing) (batch : Batch) (lists : List (List Turn)) (status : ℕ)
+    → GivesLines r (λ lines. AreGoodJobs lines batch lists) → RunsJobs batch lists w status
+    → (¬ HasWriteFault w → GetsStates batch lists status) → GetsJobs r w status
+run_causes r w batch lists status g (answer, ends) comes =
+    taken_gets GetsStates r w batch lists status g comes (shows_end batch lists w status answer ends)
+
+pub states_eleven : (batch : Batch) (lists : List (List Turn)) → GetsStates batch lists 11
+states_eleven batch lists answer comes = inr refl

@@ -7,3 +7,4 @@ mod SaidLemmas
 mod CauseLemmas
 mod WordLemmas
 mod NextLemmas
+mod NextCauseLemmas

@@ -114,19 +114,19 @@ pub next_fault : (batch : Batch) (lists : List (List Turn)) (error : WavesError 
 next_fault batch lists (errors.Wave n engine.OutOfMemory) plans = inl refl
 next_fault batch lists (errors.Wave n engine.Unfinished) (inl wants) = cc
 next_fault batch lists (errors.Wave n engine.Unfinished) (inr comes) =
-    inr (errors.Wave n engine.Unfinished, comes, refl)
+    inr (errors.Wave n engine.Unfinished, comes, refl, refl)
 next_fault batch lists (errors.Wave n (engine.Report e)) (inl wants) = cc
 next_fault batch lists (errors.Wave n (engine.Report e)) (inr comes) =
-    inr (errors.Wave n (engine.Report e), comes, refl)
+    inr (errors.Wave n (engine.Report e), comes, refl, refl)
 next_fault batch lists (errors.Wave n (engine.NotEnabled i)) (inl wants) = cc
 next_fault batch lists (errors.Wave n (engine.NotEnabled i)) (inr comes) =
-    inr (errors.Wave n (engine.NotEnabled i), comes, refl)
+    inr (errors.Wave n (engine.NotEnabled i), comes, refl, refl)
 next_fault batch lists (errors.Wave n (engine.ThirdSignal i)) (inl wants) = cc
 next_fault batch lists (errors.Wave n (engine.ThirdSignal i)) (inr comes) =
-    inr (errors.Wave n (engine.ThirdSignal i), comes, refl)
+    inr (errors.Wave n (engine.ThirdSignal i), comes, refl, refl)
 next_fault batch lists (errors.Missing n) plans = absurd plans
 next_fault batch lists (errors.Extra g u) (inl wants) = cc
-next_fault batch lists (errors.Extra g u) (inr comes) = inr (errors.Extra g u, comes, refl)
+next_fault batch lists (errors.Extra g u) (inr comes) = inr (errors.Extra g u, comes, refl, refl)
 next_fault batch lists errors.OutOfMemory plans = inl refl
 
 -- a line that was made, or not for want of memory

@@ -34,10 +34,17 @@ pub record HasLines (left : Option (List ℕ)) (Holds : List (List ℕ) → Type
   pub within : length bytes ≤ input_limit
   pub holds : Holds (lines_of bytes)
 
+-- what lists of turns come to gives a run of them this status
+abbrev pub GetsStates : Batch → List (List Turn) → ℕ → Type 0
+GetsStates batch lists status =
+    (answer : Result (List JobState) (WavesError Failed)) → ComesTo batch lists answer
+    → Gets status (waves_status answer)
+
 -- a source that can't be read gets 10, and no other cause does; too many bytes 12, a bad line 3, and jobs that are
--- refused 5. Jobs that are taken get the status of what their lists come to, where the sink didn't fail; 9 says that
--- it did, and no status of states is given then
-pub record GetsJobs (r : Reading) (w : Writing) (status : ℕ) : Type 0 where
+-- refused 5. Jobs that are taken get the status that their lists give, where the sink didn't fail; 9 says that it did,
+-- and no status of states is given then
+pub record GetsBy (Comes : Batch → List (List Turn) → ℕ → Type 0) (r : Reading) (w : Writing) (status : ℕ)
+    : Type 0 where
   pub known : Contains jobs_statuses status
   pub unread : r.faults < r.faults_after → Gets status 10
   pub read : status ≡ 10 → HasReadFault r
@@ -49,7 +56,10 @@ pub record GetsJobs (r : Reading) (w : Writing) (status : ℕ) : Type 0 where
       → (e : JobsError) → jobs_fault batch.threads batch.jobs ≡ Some e → Gets status 5
   pub came : ¬ HasReadFault r → (batch : Batch) (lists : List (List Turn))
       → HasLines r.left (λ lines. IsJobsInput lines batch lists) → jobs_fault batch.threads batch.jobs ≡ None
-      → ¬ HasWriteFault w → (answer : Result (List JobState) (WavesError Failed)) → ComesTo batch lists answer
-      → Gets status (waves_status answer)
+      → ¬ HasWriteFault w → Comes batch lists status
   pub unwritten : status ≡ 9 → HasWriteFault w
   pub written : IsStatesStatus status → w.faults_after ≡ w.faults
+
+-- so a run of jobs gets its status
+abbrev pub GetsJobs : Reading → Writing → ℕ → Type 0
+GetsJobs r w status = GetsBy GetsStates r w status

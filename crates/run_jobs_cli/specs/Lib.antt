@@ -11,3 +11,4 @@ pub mod RunsJobs
 pub mod JobsGiven
 pub mod JobsCauses
 pub mod NextWaves
+pub mod NextCauses

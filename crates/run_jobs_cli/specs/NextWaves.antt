@@ -1,5 +1,6 @@
 -- What the program says of the wave that is due next.
-use Rattle.std.specs.Prelude.{ℕ, ◌≡◌, ◌⊎◌, ◌≤◌, List, [], ◌∷◌, length, true, false, Some, None, Result, Ok, Err, codes}
+use Rattle.std.specs.Prelude.{ℕ, ◌≡◌, ◌⊎◌, ◌≤◌, List, [], ◌∷◌, length, Bool, true, false, Some, None, Result, Ok, Err}
+use Rattle.std.specs.Prelude.{codes}
 use Rattle.std.specs.declared.convert.Infallible.{Infallible}
 use Rattle.run_events.specs.declared.plan.Plan.{Plan}
 use Rattle.run_events.specs.declared.turn.Turn.{Turn}
@@ -9,6 +10,7 @@ use Rattle.run_input.specs.Lines.{lines_of}
 use Rattle.run_output.specs.declared.fault.Fault.TheVariants as plain
 use Rattle.run_output.specs.Fields.{count, line_bytes, object_text}
 use Rattle.run_jobs.specs.declared.waves_error.WavesError.{WavesError}
+use Rattle.run_jobs.specs.declared.waves_error.WavesError.TheVariants as errors
 use Rattle.run_jobs.specs.Jobs.{Batch}
 use Rattle.run_jobs.specs.States.{Wave}
 use Rattle.run_jobs.specs.Waves.{ComesTo, HaveRun, is_next_due, next_settings}
@@ -40,6 +42,11 @@ SaysNext batch waves line status =
     ((is_next_due batch waves ≡ true) × SaysWave batch waves line × (status ≡ 0))
     ⊎ ((is_next_due batch waves ≡ false) × (line ≡ none_due_text) × (status ≡ 4))
 
+-- whether an error says that a wave has no list
+abbrev pub is_missing : {E : Type 0} → WavesError E → Bool
+is_missing (errors.Missing wave) = true
+is_missing _ = false
+
 -- what is found of the wave after those that these lists of turns carry out, one list for each: its line, or why the
 -- lists don't carry them out; want of memory says nothing
 abbrev pub FindsNext : Batch → List (List Turn) → Result (List ℕ × ℕ) JobsFault → Type 0
@@ -48,7 +55,8 @@ FindsNext batch lists (Ok found) =
     × SaysNext batch waves found.0 found.1
 FindsNext batch lists (Err fault) =
     (fault ≡ faults.Plain plain.Memory)
-    ⊎ ((e : WavesError Infallible) × ComesTo {E = Infallible} batch lists (Err e) × (fault ≡ waves_fault e))
+    ⊎ ((e : WavesError Infallible) × ComesTo {E = Infallible} batch lists (Err e) × (is_missing e ≡ false)
+    × (fault ≡ waves_fault e))
 
 -- a line was written, with its status; or the sink failed, or memory was wanting
 abbrev pub EndsAtLine : Writing → List ℕ → ℕ → ℕ → Type 0

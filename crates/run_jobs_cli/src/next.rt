@@ -4,6 +4,7 @@ ghost use Rattle.std.specs.List.{All};
 ghost use Rattle.run_output.specs.declared.fault.Fault.TheVariants.{Memory};
 ghost use Rattle.run_cli.specs.Call.{reading_of, writing_of};
 ghost use Rattle.run_jobs_cli.specs.declared.fault.JobsFault.TheVariants.{Plain};
+ghost use Rattle.run_jobs_cli.specs.NextCauses.{GetsNextWave};
 ghost use Rattle.run_jobs_cli.specs.NextWaves.{AnswersNextWave, EndsAtLine, EndsAtNext, FindsNext, none_due_text};
 
 use crate::ends::end_at;
@@ -80,7 +81,9 @@ fn end_at_next<K: Sink>(alloc: Global, sink: K, next: Result<(Text, u8), JobsFau
 /// The other statuses are those of `run` before its waves, and of the first wave that its turns don't end; 9 says that
 /// the sink failed.
 pub fn next_wave<S: Source, K: Sink>(alloc: Global, source: &mut S, sink: K) -> Ran<K>
-    ensures { AnswersNextWave (reading_of S.Source source.old source.new)
+    ensures says { AnswersNextWave (reading_of S.Source source.old source.new)
+        (writing_of K.Sink sink result.sink) result.status }
+    ensures causes { GetsNextWave (reading_of S.Source source.old source.new)
         (writing_of K.Sink sink result.sink) result.status }
 {
     match given_jobs(alloc, source) {

@@ -1,9 +1,7 @@
-use Rattle.std.proofs.Common.{◌≡◌, Ok, Err, Some, IfOk, sym, subst}
+use Rattle.std.proofs.Common.{Ok, Err, sym, subst}
 use Rattle.std.specs.Option.{IfSome}
 use Rattle.std.specs.declared.convert.Infallible.{Infallible}
-use Rattle.run_input.specs.Input.{plan_line_of}
 use Rattle.run_jobs.specs.Due.{IsPlanTaken, PlansNext}
-use Rattle.run_wave_line.specs.WaveLine.{wave_keys, wave_plan}
 use Rattle.run_jobs_cli.specs.NextWaves.{FindsNext}
 use Rattle.run_jobs_cli.proofs.NextLemmas.{found_next, found_none, next_fault}
 use Rattle.run_jobs_cli.proofs.next.find_next.Goals as goal

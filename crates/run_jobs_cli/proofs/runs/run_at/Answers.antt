@@ -1,4 +1,3 @@
-use Rattle.std.proofs.Common.{◌≡◌, [], refl}
 use Rattle.run_jobs_cli.proofs.RunLemmas.{came_so, runs_so}
 use Rattle.run_jobs_cli.proofs.runs.run_at.Goals as goal
 
