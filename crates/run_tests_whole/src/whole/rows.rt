@@ -1,5 +1,5 @@
 // Runs of one test under one worker.
-use crate::whole::gate::{CountingHost, CountingKeeper, WaitingOutside};
+use crate::whole::gate::{Count, CountingHost, CountingKeeper, WaitingOutside};
 use crate::whole::given::{Act, keepers, nothing, runner, signals};
 use crate::whole::hearing::Hearing;
 use run_capture::List;
@@ -78,39 +78,71 @@ fn is_missed<C>(alloc: Global, left: &Left<C>, wanted: &str) -> bool {
     }
 }
 
-// A run, its keepers, the outside and who stops the program, with what its keeper is told and how often it is stopped.
-fn holds<X: Abort + Threads + Wait + Sync + Clock + Copy + Send + Drop>(
-    rt: X,
-    alloc: Global,
-    act: &Act,
-    told: &str,
+// What is done, the signals that the keeper is told, how often the program is stopped, and how the run ends.
+struct Row {
+    act: Act,
+    told: &'static str,
     halts: u64,
-    wanted: &str,
-) -> bool {
-    let count = nothing(&rt, alloc);
-    let mut host = CountingHost {
-        clock: rt,
-        keepers: keepers(&rt, alloc, act, &count),
-    };
-    let outside = WaitingOutside {
-        signals: signals(&rt, alloc, act.outside),
+    ends: &'static str,
+}
+
+// Whether a run is left as its row says.
+fn is_left<C>(alloc: Global, left: &Left<C>, row: &Row) -> bool {
+    were_told(
+        left.threads.workers.keepers.as_slice(),
+        row.told,
+        row.act.refuses,
+    ) && is_missed(alloc, left, row.told)
+        && left.threads.ear.around.halter.halts() == row.halts
+        && hears_each_turn(left)
+        && ending(left) == row.ends
+}
+
+// What is said of a run by what it left, or by where it was given up.
+fn said_of<L: Drop, G: Drop, F: FnOnce(&L) -> bool, C: FnOnce(&G) -> bool>(
+    ended: Result<L, G>,
+    is_left: F,
+    is_cut: C,
+) -> bool
+    requires left { F.IsAlwaysCallable is_left }
+    requires cut { C.IsAlwaysCallable is_cut }
+{
+    match ended {
+        Ok(left) => is_left(&left),
+        Err(given_up) => is_cut(&given_up),
+    }
+}
+
+// What comes from outside.
+fn outside(rt: &impl Abort, alloc: Global, act: &Act, count: Count) -> WaitingOutside {
+    WaitingOutside {
+        signals: signals(rt, alloc, act.outside),
         at: 0,
         asked: 0,
         count,
-    };
+    }
+}
+
+// Whether a run with its keepers, what comes from outside and who stops the program is as its row says.
+fn holds<X: Abort + Threads + Wait + Sync + Clock + Copy + Send + Drop>(
+    rt: X,
+    alloc: Global,
+    row: &Row,
+) -> bool {
+    let act = &row.act;
+    let count = nothing(&rt, alloc);
+    let keepers = keepers(&rt, alloc, act, &count);
+    let mut host = CountingHost { clock: rt, keepers };
+    let outside = outside(&rt, alloc, act, count);
     let halter = MemoryHalter::new();
     let around = Around { outside, halter };
     let runner = runner(&rt, alloc, act);
-    match whole(&rt, alloc, runner, 1, &mut host, around, Hearing::new()) {
-        Ok(left) => {
-            were_told(left.threads.workers.keepers.as_slice(), told, act.refuses)
-                && is_missed(alloc, &left, told)
-                && left.threads.ear.around.halter.halts() == halts
-                && hears_each_turn(&left)
-                && ending(&left) == wanted
-        }
-        Err(given_up) => wanted == "cut off" && given_up.cut_off.is_some(),
-    }
+    let ended = whole(&rt, alloc, runner, 1, &mut host, around, Hearing::new());
+    said_of(
+        ended,
+        |left| is_left(alloc, left, row),
+        |given_up| row.ends == "cut off" && given_up.cut_off.is_some(),
+    )
 }
 
 // A child that ends by itself.
@@ -133,78 +165,121 @@ const HANGS: Act = Act {
     outside: "",
 };
 
-// What is done, the signals that the keeper is told, how often the program is stopped, and how the run ends: a child
-// ends by itself; its streams stay open; it hangs, and is told TERM and KILL; it ends by TERM; no signal can be sent to
-// it; an interrupt comes, and another; and a third; a stop comes, and a continue, and a tick before
-// each.
-const ROWS: [(Act, &str, u64, &str); 8] = [
-    (QUIET, "", 0, "success"),
-    (
-        Act {
+// A child ends by itself; its streams stay open.
+const ENDS: [Row; 2] = [
+    Row {
+        act: QUIET,
+        told: "",
+        halts: 0,
+        ends: "success",
+    },
+    Row {
+        act: Act {
             leaks: true,
             ..QUIET
         },
-        "",
-        0,
-        "success",
-    ),
-    (HANGS, "TK", 0, "failed"),
-    (
-        Act {
+        told: "",
+        halts: 0,
+        ends: "success",
+    },
+];
+
+// It hangs, and is told TERM and KILL; it ends by TERM; no signal can be sent to it.
+const OUT_OF_TIME: [Row; 3] = [
+    Row {
+        act: HANGS,
+        told: "TK",
+        halts: 0,
+        ends: "failed",
+    },
+    Row {
+        act: Act {
             signals: 1,
             exit: ChildExit::Signal(15),
             ..HANGS
         },
-        "T",
-        0,
-        "failed",
-    ),
-    (
-        Act {
+        told: "T",
+        halts: 0,
+        ends: "failed",
+    },
+    Row {
+        act: Act {
             refuses: true,
             ..HANGS
         },
-        "TK",
-        0,
-        "failed",
-    ),
-    (
-        Act {
+        told: "TK",
+        halts: 0,
+        ends: "failed",
+    },
+];
+
+// An interrupt comes, and another; and a third.
+const INTERRUPTED: [Row; 2] = [
+    Row {
+        act: Act {
             period: None,
             outside: "II",
             ..HANGS
         },
-        "IK",
-        0,
-        "cancelled",
-    ),
-    (
-        Act {
+        told: "IK",
+        halts: 0,
+        ends: "cancelled",
+    },
+    Row {
+        act: Act {
             period: None,
             signals: 9,
             outside: "III",
             ..HANGS
         },
-        "",
-        0,
-        "cut off",
-    ),
-    (
-        Act {
-            signals: 2,
-            outside: "TSTC",
-            ..QUIET
-        },
-        "SC",
-        1,
-        "success",
-    ),
+        told: "",
+        halts: 0,
+        ends: "cut off",
+    },
 ];
 
-#[test]
-fn signals_are_delivered(rt: HostRuntime) {
-    for (act, told, halts, ending) in &ROWS {
-        let is_so = holds(rt, rt.alloc(), act, told, *halts, ending);
-        assert!(rt; is_so, "{told}, {ending}");
+// A stop comes, and a continue, and a tick before each.
+const STOPPED: [Row; 1] = [Row {
+    act: Act {
+        signals: 2,
+        outside: "TSTC",
+        ..QUIET
+    },
+    told: "SC",
+    halts: 1,
+    ends: "success",
+}];
+
+// Whether each row holds.
+fn all_hold<X: Abort + Threads + Wait + Sync + Clock + Copy + Send + Drop>(
+    rt: X,
+    alloc: Global,
+    rows: &[Row],
+) -> bool {
+    for row in rows {
+        if !holds(rt, alloc, row) {
+            return false;
+        }
     }
+    true
+}
+
+#[test]
+fn a_child_ends(rt: HostRuntime) {
+    assert!(rt; all_hold(rt, rt.alloc(), &ENDS));
+}
+
+#[test]
+fn a_child_is_out_of_time(rt: HostRuntime) {
+    assert!(rt; all_hold(rt, rt.alloc(), &OUT_OF_TIME));
+}
+
+#[test]
+fn interrupts_are_delivered(rt: HostRuntime) {
+    assert!(rt; all_hold(rt, rt.alloc(), &INTERRUPTED));
+}
+
+#[test]
+fn a_stop_is_delivered(rt: HostRuntime) {
+    assert!(rt; all_hold(rt, rt.alloc(), &STOPPED));
 }
