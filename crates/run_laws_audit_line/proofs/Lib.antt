@@ -1,4 +1,4 @@
-mod DepthLemmas
+pub mod DepthLemmas
 pub mod EventLemmas
 mod KindLemmas
 mod PartLemmas

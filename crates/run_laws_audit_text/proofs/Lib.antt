@@ -1,0 +1,6 @@
+mod LineLemmas
+mod FeedLemmas
+mod SeenLemmas
+mod EventLemmas
+mod TextLemmas
+mod CallLemmas
