@@ -6,14 +6,14 @@ ghost use Rattle.run_events.specs.declared.events.ReporterEvent.TheVariants.{Tic
 
 use run_capture::{List, Mem, Text};
 use run_events::{ReporterEvent, RunMode, TestEvent};
-use run_progress::{MaxProgressRunning, ProgressState};
+use run_progress::{LiveProgress, MaxProgressRunning};
 use std::alloc::Global;
 
 /// A display on a terminal of a width, with the clocks of the ticks that come, and how many came.
 #[derive(Drop)]
 pub(crate) struct Watcher {
     pub width: u32,
-    pub state: ProgressState,
+    pub state: LiveProgress,
     pub clocks: List<u64>,
     pub ticks: usize,
 }
@@ -31,7 +31,7 @@ impl Watcher {
     {
         Watcher {
             width,
-            state: ProgressState::new(mode, run_count, max),
+            state: LiveProgress::new(mode, run_count, max),
             clocks,
             ticks: 0,
         }

@@ -4,8 +4,10 @@ use Rattle.std.specs.Prelude.{if◌then◌else◌}
 use Rattle.run_events.specs.declared.events.TestEvent.{TestEvent}
 use Rattle.run_progress.specs.declared.seen.Seen.{Seen}
 use Rattle.run_progress.specs.declared.max_running.MaxProgressRunning.{MaxProgressRunning}
+use Rattle.run_progress.specs.declared.max_running.MaxProgressRunning.TheVariants.{Count}
+use Rattle.run_progress.specs.declared.running_test.RunningTest.{RunningTest}
 use Rattle.run_progress.specs.Display.{display}
-use Rattle.run_progress.specs.Edits.{seen_after}
+use Rattle.run_progress.specs.Edits.{edited, seen_after}
 use Rattle.run_progress.specs.Progress.{Hears, Progress, StandsFor, tests_shown, tests_told}
 use Rattle.run_progress.specs.Seen.{hiding, seen_of, shows_tests}
 use Rattle.run_progress.proofs.DisplayLemmas.{seen_of-push}
@@ -47,3 +49,17 @@ hears old seen event is = record {
         ∙ sym (seen_of-push old.showing.max told event);
   };
 }
+
+-- what is seen, with these running tests
+abbrev pub with_tests : Seen → List RunningTest → Seen
+with_tests seen tests = record seen { tests = tests }
+
+-- what one more event makes of the running tests and of the rest is what it makes of both
+pub seen_apart : (max : MaxProgressRunning) (seen rest : Seen) (tests after : List RunningTest) (event : TestEvent)
+    → after ≡ (if shows_tests max then edited seen.paused event tests else tests)
+    → rest ≡ seen_after (Count 0) seen event
+    → with_tests rest after ≡ seen_after max (with_tests seen tests) event
+unfolding seen_after
+seen_apart max seen rest tests after event is_after is_rest =
+    ap (λ (r : Seen). with_tests r after) is_rest
+    ∙ ap (λ (t : List RunningTest). with_tests (seen_after (Count 0) seen event) t) is_after

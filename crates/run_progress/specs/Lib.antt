@@ -9,5 +9,6 @@ pub mod Deeds
 pub mod Display
 pub mod Seen
 pub mod Edits
+pub mod Starts
 pub mod Lines
 pub mod Progress

@@ -99,7 +99,7 @@ fn slow(alloc: Global, tests: &mut List<RunningTest>, id: &TestInstanceId)
     *tests = List::from_vec(vec);
 }
 
-fn delay_one(running: &mut RunningTest, pause: u64)
+pub(crate) fn delay_one(running: &mut RunningTest, pause: u64)
     ensures { running.new ≡ paused_more pause running.old }
 {
     running.paused = running.paused.saturating_add(pause);

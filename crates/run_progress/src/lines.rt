@@ -34,6 +34,7 @@ ghost use Rattle.run_progress.specs.Lines.{
 use crate::max_running::MaxProgressRunning;
 use crate::running_test::{RunningTest, RunningTestStatus};
 use crate::seen::Seen;
+use crate::shown_tests::ShownTests;
 use crate::summary::{counts, head};
 use crate::texts::in_brackets;
 use run_capture::Mem;
@@ -130,8 +131,8 @@ fn line(alloc: Global, now: u64, width: u32, running: &RunningTest) -> Mem<Strin
     Ok(format!(in alloc; "       {status} {time}{name}")?)
 }
 
-// Adds the line of a running test.
-fn push_line(
+/// Adds the line of a running test.
+pub(crate) fn push_line(
     alloc: Global,
     out: &mut String,
     now: u64,
@@ -147,8 +148,8 @@ fn push_line(
     Ok(())
 }
 
-// Adds the lines of running tests.
-fn push_lines(
+/// Adds the lines of running tests.
+pub(crate) fn push_lines(
     alloc: Global,
     out: &mut String,
     now: u64,
@@ -190,8 +191,8 @@ fn push_more(out: &mut String, mode: RunMode, more: usize) -> Mem<usize>
     Ok(1)
 }
 
-// The first running tests, as many as are shown.
-fn shown_of(max: MaxProgressRunning, tests: &[RunningTest]) -> &[RunningTest]
+/// The first running tests, as many as are shown.
+pub(crate) fn shown_of(max: MaxProgressRunning, tests: &[RunningTest]) -> &[RunningTest]
     ensures { result.now ≡ shown_of max tests.now }
 {
     match max {
@@ -202,22 +203,21 @@ fn shown_of(max: MaxProgressRunning, tests: &[RunningTest]) -> &[RunningTest]
 
 // Adds the lines of the running tests, and answers how many they are.
 #[tactic(auto, unfolding(crate::specs::Lines::test_lines))]
-fn push_tests(
+fn push_tests<T: ShownTests>(
     alloc: Global,
     out: &mut String,
     showing: Showing,
     now: u64,
     width: u32,
-    tests: &[RunningTest],
+    tests: &T,
 ) -> Mem<usize>
     ensures text { IfOk result (λ _. string_bytes out.new
-        ≡ string_bytes out.old ++ below (test_lines showing now width tests.now)) }
-    ensures lines { IfOk result (λ n. n ≡ length (test_lines showing now width tests.now)) }
+        ≡ string_bytes out.old ++ below (test_lines showing now width (T.tests tests.now))) }
+    ensures lines { IfOk result (λ n. n ≡ length (test_lines showing now width (T.tests tests.now))) }
 {
-    let shown = shown_of(showing.max, tests);
-    push_lines(alloc, out, now, width, shown)?;
-    let more = push_more(out, showing.mode, tests.len() - shown.len())?;
-    Ok(shown.len() + more)
+    let shown = tests.push_shown(alloc, out, now, width, showing.max)?;
+    let more = push_more(out, showing.mode, tests.count() - shown)?;
+    Ok(shown + more)
 }
 
 // Adds empty lines.
@@ -232,41 +232,44 @@ fn push_empty(out: &mut String, count: usize) -> Mem<()>
 
 // Adds the lines of the running tests, and empty ones up to the most that were shown so far; answers how many they are
 // without these.
-fn push_filled(
+fn push_filled<T: ShownTests>(
     alloc: Global,
     out: &mut String,
     showing: Showing,
     now: u64,
     width: u32,
-    tests: &[RunningTest],
+    tests: &T,
 ) -> Mem<usize>
     ensures text { IfOk result (λ _. string_bytes out.new
-        ≡ string_bytes out.old ++ filled showing.most_lines (test_lines showing now width tests.now)) }
-    ensures lines { IfOk result (λ n. n ≡ length (test_lines showing now width tests.now)) }
+        ≡ string_bytes out.old ++ filled showing.most_lines (test_lines showing now width (T.tests tests.now))) }
+    ensures lines { IfOk result (λ n. n ≡ length (test_lines showing now width (T.tests tests.now))) }
 {
     let lines = push_tests(alloc, out, showing, now, width, tests)?;
     push_empty(out, showing.most_lines.saturating_sub(lines))?;
     Ok(lines)
 }
 
-/// A message, and how the next one is shown.
+/// A message about what was seen, with these running tests, and how the next one is shown.
 #[tactic(auto, unfolding(crate::specs::Lines::message_text, crate::specs::Lines::shown_after))]
-pub(crate) fn message(
+pub(crate) fn message<'a, T: ShownTests>(
     alloc: Global,
     showing: Showing,
-    seen: &Seen,
+    seen: &'a Seen,
+    tests: &'a T,
     now: u64,
     width: u32,
 ) -> Mem<(String, Showing)>
-    ensures text { IfOk result (λ m. string_bytes m.0 ≡ message_text showing seen.now now width) }
-    ensures showing { IfOk result (λ m. m.1 ≡ shown_after showing seen.now now width) }
+    ensures text { IfOk result (λ m. string_bytes m.0
+        ≡ message_text showing (record seen.now { tests = T.tests tests.now }) now width) }
+    ensures showing { IfOk result (λ m. m.1
+        ≡ shown_after showing (record seen.now { tests = T.tests tests.now }) now width) }
 {
     let counts = counts(alloc, seen.counts.running, &seen.counts.stats)?;
     let mut text = format!(in alloc; "{counts}     ")?;
     if !showing.max.shows_tests() {
         return Ok((text, showing));
     }
-    let lines = push_filled(alloc, &mut text, showing, now, width, seen.tests.as_slice())?;
+    let lines = push_filled(alloc, &mut text, showing, now, width, tests)?;
     let most_lines = showing.most_lines.max(lines);
     Ok((
         text,
@@ -277,9 +280,43 @@ pub(crate) fn message(
     ))
 }
 
-/// What a display shows at a tick, and how the next one is shown.
+/// What a display shows at a tick, with these running tests, and how the next one is shown.
 #[tactic(auto, unfolding(crate::specs::Lines::tick_of))]
-pub(crate) fn tick(
+pub(crate) fn tick<'a, T: ShownTests>(
+    alloc: Global,
+    showing: Showing,
+    seen: &'a Seen,
+    tests: &'a T,
+    now: u64,
+    width: u32,
+) -> Mem<(String, Showing)>
+    ensures text { IfOk result (λ m. string_bytes m.0
+        ≡ tick_of showing (record seen.now { tests = T.tests tests.now }) now width) }
+    ensures showing { IfOk result (λ m. m.1
+        ≡ shown_after showing (record seen.now { tests = T.tests tests.now }) now width) }
+{
+    let head = head(alloc, now.saturating_sub(seen.paused), &seen.counts.stats)?;
+    let (message, showing) = message(alloc, showing, seen, tests, now, width)?;
+    let text = format!(in alloc; "{head}{message}")?;
+    Ok((text, showing))
+}
+
+/// A message about what was seen, and how the next one is shown.
+pub(crate) fn message_of(
+    alloc: Global,
+    showing: Showing,
+    seen: &Seen,
+    now: u64,
+    width: u32,
+) -> Mem<(String, Showing)>
+    ensures text { IfOk result (λ m. string_bytes m.0 ≡ message_text showing seen.now now width) }
+    ensures showing { IfOk result (λ m. m.1 ≡ shown_after showing seen.now now width) }
+{
+    message(alloc, showing, seen, &seen.tests, now, width)
+}
+
+/// What a display shows at a tick, and how the next one is shown.
+pub(crate) fn tick_of(
     alloc: Global,
     showing: Showing,
     seen: &Seen,
@@ -289,8 +326,5 @@ pub(crate) fn tick(
     ensures text { IfOk result (λ m. string_bytes m.0 ≡ tick_of showing seen.now now width) }
     ensures showing { IfOk result (λ m. m.1 ≡ shown_after showing seen.now now width) }
 {
-    let head = head(alloc, now.saturating_sub(seen.paused), &seen.counts.stats)?;
-    let (message, showing) = message(alloc, showing, seen, now, width)?;
-    let text = format!(in alloc; "{head}{message}")?;
-    Ok((text, showing))
+    tick(alloc, showing, seen, &seen.tests, now, width)
 }

@@ -6,7 +6,7 @@ ghost use Rattle.run_progress.specs.Progress.{ForTold, Hears, StandsFor, tests_s
 ghost use Rattle.run_progress.specs.Seen.{hiding, is_hidden, seen_of};
 ghost use Rattle.run_progress.specs.declared.max_running.MaxProgressRunning.TheVariants as max_running;
 
-use crate::lines::{Showing, message, tick};
+use crate::lines::{Showing, message_of, tick_of};
 use crate::max_running::MaxProgressRunning;
 use crate::running_test::RunningTest;
 use crate::seen::Seen;
@@ -79,7 +79,7 @@ impl ProgressState {
             { showing = shown_after self.old.showing self.old.seen now width }) }
         ensures err { OnErr result (self.new ≡ self.old) }
     {
-        let (text, showing) = message(alloc, self.showing, &self.seen, now, width)?;
+        let (text, showing) = message_of(alloc, self.showing, &self.seen, now, width)?;
         self.showing = showing;
         Ok(Text::from_string(text))
     }
@@ -99,7 +99,7 @@ impl ProgressState {
             { showing = shown_after self.old.showing self.old.seen now width }) }
         ensures err { OnErr result (self.new ≡ self.old) }
     {
-        let (text, showing) = tick(alloc, self.showing, &self.seen, now, width)?;
+        let (text, showing) = tick_of(alloc, self.showing, &self.seen, now, width)?;
         self.showing = showing;
         Ok(Text::from_string(text))
     }
@@ -116,7 +116,7 @@ impl ProgressState {
             { showing = shown_after self.old.showing self.old.seen now width }) }
         ensures err { OnErr result (self.new ≡ self.old) }
     {
-        let (text, showing) = tick(alloc, self.showing, &self.seen, now, width)?;
+        let (text, showing) = tick_of(alloc, self.showing, &self.seen, now, width)?;
         let mut line = text;
         line.push_str("\n")?;
         self.showing = showing;

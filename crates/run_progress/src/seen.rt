@@ -2,6 +2,7 @@
 ghost use Rattle.std.specs.Prelude.{◌≡◌, [], false, OnOk, OnErr};
 ghost use Rattle.run_progress.specs.Deeds.{paused_in};
 ghost use Rattle.run_progress.specs.Edits.{hiding_after, seen_after};
+ghost use Rattle.run_progress.specs.declared.max_running.MaxProgressRunning.TheVariants as max_running;
 ghost use Rattle.run_progress.specs.Seen.{counts_in, info_in, is_hidden, no_counts, pause_in, script_in};
 
 use crate::edits::{edit, paused_by};
@@ -141,6 +142,16 @@ impl Seen {
         }
     }
 
+    /// Hears of one more event all but what it does to the running tests.
+    #[tactic(auto, unfolding(crate::specs::Edits::seen_after))]
+    pub(crate) fn hear_rest(&mut self, event: &TestEvent)
+        ensures { self.new ≡ seen_after (max_running.Count 0) self.old event.now }
+    {
+        self.counts = counts_in(&event.kind).unwrap_or(self.counts);
+        self.paused = paused_in(event).unwrap_or(self.paused);
+        self.hiding = self.hiding.after(&event.kind);
+    }
+
     /// Hears one more event.
     #[tactic(auto, unfolding(crate::specs::Edits::seen_after))]
     pub(crate) fn hear(
@@ -155,9 +166,7 @@ impl Seen {
         if max.shows_tests() {
             edit(alloc, &mut self.tests, self.paused, event)?;
         }
-        self.counts = counts_in(&event.kind).unwrap_or(self.counts);
-        self.paused = paused_in(event).unwrap_or(self.paused);
-        self.hiding = self.hiding.after(&event.kind);
+        self.hear_rest(event);
         Ok(())
     }
 }

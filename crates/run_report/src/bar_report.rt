@@ -12,14 +12,14 @@ use crate::style::push_char;
 use crate::{Board, Listener};
 use run_capture::Mem;
 use run_events::{ReporterEvent, RunMode, TestEvent};
-use run_progress::{MaxProgressRunning, ProgressState};
+use run_progress::{LiveProgress, MaxProgressRunning};
 use std::alloc::Global;
 use std::time::{Clock, Instant};
 
 /// What a bar is drawn by.
 #[derive(Drop)]
 struct Bar<C: Clock + Drop> {
-    state: ProgressState,
+    state: LiveProgress,
     clock: C,
     start: Option<Instant>,
     width: u32,
@@ -55,7 +55,7 @@ impl<C: Clock + Drop> Bar<C> {
     {
         let start = Instant::now(&clock).ok();
         Bar {
-            state: ProgressState::new(RunMode::Test, 0, MaxProgressRunning::DEFAULT_VALUE),
+            state: LiveProgress::new(RunMode::Test, 0, MaxProgressRunning::DEFAULT_VALUE),
             clock,
             start,
             width,

@@ -4,7 +4,7 @@ use crate::rows::{MEMORY, copied, holds, is_shown, text};
 use run_capture::Duplicate;
 use run_events::{RunMode, RunStats, TestEventKind};
 use run_progress::{
-    MaxProgressError, MaxProgressRunning, ProgressState, RunningTest, ShowProgress,
+    LiveProgress, MaxProgressError, MaxProgressRunning, ProgressState, RunningTest, ShowProgress,
     ShowTerminalProgress, TermSetting, progress_str, term_progress_percent,
     terminal_progress_value, write_summary_str,
 };
@@ -244,6 +244,26 @@ fn display(
     state
 }
 
+// Whether a display that answers no list shows this text, once these benchmarks have started.
+fn shows_live(
+    rt: &impl Abort,
+    alloc: Global,
+    max: MaxProgressRunning,
+    names: &[&str],
+    width: u32,
+    text: &str,
+) -> bool {
+    let mut live = LiveProgress::new(RunMode::Benchmark, 10, max);
+    for name in names {
+        let kind = started(rt, alloc, name, 1);
+        live.apply(alloc, &event_of(kind, 0)).expect(rt, MEMORY);
+    }
+    let shown = live
+        .tick_text(alloc, seconds(18810), width)
+        .expect(rt, MEMORY);
+    shown.as_str() == text
+}
+
 // It shows these lines.
 fn check_display(
     rt: &impl Abort,
@@ -260,6 +280,11 @@ fn check_display(
     let shown = shows(rt, alloc, &mut state, 18810, width, text.as_str());
     drop(state);
     holds(rt, lines, shown);
+    holds(
+        rt,
+        "live",
+        shows_live(rt, alloc, max, names, width, text.as_str()),
+    );
 }
 
 const ONE: [&str; 1] = ["test::my_test"];
