@@ -6,7 +6,7 @@ ghost use Rattle.run_laws_calls.specs.Stops.{tells_cancel};
 ghost use Rattle.example_supervisor.specs.Reported.{job_result};
 
 use run_capture::{List, Mem};
-use run_events::{Ask, Children, ReportFault, Reporter, ReporterEvent, TestEventKind};
+use run_events::{Ask, Children, ReportFault, Reporter, ReporterEvent, TestEventKind, Turn};
 use std::alloc::Global;
 use std::convert::Infallible;
 
@@ -59,12 +59,15 @@ impl Ledger {
 impl Reporter for Ledger {
     type Error = Infallible;
 
-    ghost use Rattle.std.specs.Prelude.{map};
+    ghost use Rattle.std.specs.Prelude.{map, ⊤};
     ghost use Rattle.example_supervisor.specs.Reported.{ledger_of};
 
     ghost told = { λ ledger xs. ledger ≡ ledger_of (map (λ x. x.0) xs) };
 
     ghost faults = { λ _. 0 };
+
+    // It doesn't keep turns.
+    ghost taken = { λ _ _. ⊤ };
 
     fn report(
         &mut self,
@@ -76,6 +79,8 @@ impl Reporter for Ledger {
             Err(_) => Err(ReportFault::OutOfMemory),
         }
     }
+
+    fn took(&mut self, _alloc: Global, _turn: &Turn) {}
 }
 
 /// The jobs that were started and haven't exited. No clause needs what they were asked, so that `asked` says nothing.

@@ -74,6 +74,7 @@ fn run_on<
     around: Around<O, S>,
 ) -> (Ran<K>, B)
     requires unheard { B.heard report [] }
+    requires untaken { B.taken report [] }
     requires quiet { O.has_come around.outside [] }
     requires runs { S.has_halted around.halter 0 }
 {
@@ -92,6 +93,7 @@ fn run_line<
     X: Threads + Wait + Clock + Sync + Send + Copy + Drop,
 >(threads: &X, rt: HostRuntime, line: &Blob, outside: O, sink: K, report: B) -> (Ran<K>, B)
     requires unheard { B.heard report [] }
+    requires untaken { B.taken report [] }
     requires quiet { O.has_come outside [] }
 {
     let host = StdKeeperHost::new(rt, *threads, rt.alloc());
@@ -226,6 +228,7 @@ fn run_plan_line<
     record: Option<&str>,
 ) -> (Ran<K>, bool, B)
     requires unheard { B.heard report [] }
+    requires untaken { B.taken report [] }
     requires quiet { O.has_come outside [] }
 {
     match record {

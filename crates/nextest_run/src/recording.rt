@@ -46,7 +46,6 @@ fn lack_of(outcome: RecordOutcome) -> Option<&'static str> {
         RecordOutcome::Unwritten => Some("a write failed"),
         RecordOutcome::Unstorable => Some("the line of a turn is too long"),
         RecordOutcome::NoMemory => Some("memory was wanting"),
-        RecordOutcome::OtherTurns => Some("it has other turns than the run took"),
     }
 }
 

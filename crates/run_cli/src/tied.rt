@@ -2,7 +2,7 @@
 ghost use Rattle.std.specs.Prelude.{◌≡◌, [], ℕ, List, Option};
 
 use run_capture::{Failed, Sink};
-use run_events::{ReportFault, Reporter, ReporterEvent};
+use run_events::{ReportFault, Reporter, ReporterEvent, Turn};
 use run_output::LineReporter;
 use std::alloc::Global;
 use std::marker::{Brand, PhantomData};
@@ -69,7 +69,7 @@ impl<K: Sink, O: Origin> TiedReporter<K, O> {
 impl<K: Sink, O: Origin> Reporter for TiedReporter<K, O> {
     type Error = Failed;
 
-    ghost use Rattle.std.specs.Prelude.{◌≡◌};
+    ghost use Rattle.std.specs.Prelude.{◌≡◌, ⊤};
 
     ghost told = { λ r answers. (K.taken r.lines.start.value ≡ O.taken_before)
         × (K.faults r.lines.start.value ≡ O.faults_before)
@@ -77,7 +77,12 @@ impl<K: Sink, O: Origin> Reporter for TiedReporter<K, O> {
 
     ghost faults = { λ r. ⟦<LineReporter<K> as Reporter>⟧.faults r.lines };
 
+    // It doesn't keep turns.
+    ghost taken = { λ _ _. ⊤ };
+
     fn report(&mut self, alloc: Global, event: &ReporterEvent) -> Result<(), ReportFault<Failed>> {
         self.lines.report(alloc, event)
     }
+
+    fn took(&mut self, _alloc: Global, _turn: &Turn) {}
 }

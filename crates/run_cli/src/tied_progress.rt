@@ -4,7 +4,7 @@ ghost use Rattle.std.specs.Prelude.{◌≡◌, [], ℕ, List, Option};
 ghost use Rattle.run_output.specs.Shown.{Screen, first_screen};
 
 use run_capture::{Failed, List, Sink};
-use run_events::{ReportFault, Reporter, ReporterEvent, RunMode};
+use run_events::{ReportFault, Reporter, ReporterEvent, RunMode, Turn};
 use run_output::ProgressReporter;
 use run_progress::MaxProgressRunning;
 use std::alloc::Global;
@@ -84,7 +84,7 @@ impl<K: Sink, O: Beginning> TiedProgress<K, O> {
 impl<K: Sink, O: Beginning> Reporter for TiedProgress<K, O> {
     type Error = Failed;
 
-    ghost use Rattle.std.specs.Prelude.{◌≡◌};
+    ghost use Rattle.std.specs.Prelude.{◌≡◌, ⊤};
     ghost use Rattle.run_output.specs.Shown.{screen_of};
 
     ghost told = { λ r answers. (K.taken r.progress.start.value ≡ O.taken_before)
@@ -94,7 +94,12 @@ impl<K: Sink, O: Beginning> Reporter for TiedProgress<K, O> {
 
     ghost faults = { λ r. ⟦<ProgressReporter<K> as Reporter>⟧.faults r.progress };
 
+    // It doesn't keep turns.
+    ghost taken = { λ _ _. ⊤ };
+
     fn report(&mut self, alloc: Global, event: &ReporterEvent) -> Result<(), ReportFault<Failed>> {
         self.progress.report(alloc, event)
     }
+
+    fn took(&mut self, _alloc: Global, _turn: &Turn) {}
 }

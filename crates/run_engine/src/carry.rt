@@ -7,7 +7,7 @@ ghost use Rattle.std.specs.Prelude.{ℕ, ◌||◌, nat_le, is_some, None, true, 
 ghost use Rattle.std.specs.Prelude.{if◌then◌else◌};
 ghost use Rattle.std.specs.VecDeque.{deque_len, deque_capacity};
 ghost use Rattle.std.specs.List.{list_all};
-ghost use Rattle.run_events.specs.Tell.{Adds};
+ghost use Rattle.run_events.specs.Tell.{Adds, Retains};
 ghost use Rattle.run_laws.specs.Ready.{CanAdvance, IsTimelyBoard};
 ghost use Rattle.run_model.specs.Journal.{past_of, IsLegal, outcome};
 ghost use Rattle.run_model.specs.declared.entry.Entry.{Entry};
@@ -57,6 +57,7 @@ fn say<C: Children, R: Reporter>(
         t.refusal) }
     ensures faults { IfOk result (λ t. CountsErrors (R.faults report.old) (R.faults report.new)
         t.refusal) }
+    ensures turns { Retains R.taken report.old report.new }
 {
     ask(alloc, children, place, &effects.asked)?;
     let told = tell(alloc, report, effects.events.as_slice())?;
@@ -128,6 +129,7 @@ fn act<C: Children, R: Reporter>(
         OnErr result (TellsPart R.told C.asked o place (deed_events
         (deed_on settings.now state.old.board turn.now))
         (deed_on settings.now state.old.board turn.now).asked) }
+    ensures turns { Retains R.taken report.old report.new }
 {
     let effects = advance(alloc, settings, state, turn, named)?;
     match say(alloc, place, &effects, children, report) {
@@ -174,6 +176,7 @@ pub(crate) fn carry_out<C: Children, R: Reporter>(
     ensures kept { OnErr result (starts.new.items ≡ starts.old.items) }
     ensures part { let o = outside R.faults report.old report.new children.old children.new in
         OnErr result (BreaksOff R.told C.asked o settings.now journal.old.items turn) }
+    ensures turns { Retains R.taken report.old report.new }
 {
     let Ok(place) = make_room(journal, starts) else {
         drop((turn, named));

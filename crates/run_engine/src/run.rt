@@ -6,7 +6,7 @@ ghost use Rattle.std.specs.Prelude.{option_map};
 ghost use Rattle.std.specs.Prelude.{ℕ, is_some, None, true, false, IsSome, IsNone, slice_get, if◌then◌else◌};
 ghost use Rattle.std.specs.VecDeque.{deque_len, deque_capacity};
 ghost use Rattle.std.specs.List.{list_all};
-ghost use Rattle.run_events.specs.Tell.{Adds};
+ghost use Rattle.run_events.specs.Tell.{Adds, Retains};
 ghost use Rattle.run_laws.specs.Ready.{CanAdvance, IsTimelyBoard};
 ghost use Rattle.run_model.specs.Journal.{past_of, IsLegal};
 ghost use Rattle.run_model.specs.Admission.{AreFew, units_in};
@@ -111,6 +111,7 @@ impl Run {
             self.old.broken ≡ true → IsUntouched self.old self.new o }
         ensures heard { IsHeard R.told C.asked report.old children.old self.old
             → IsHeard R.told C.asked report.new children.new self.new }
+        ensures turns { Retains R.taken report.old report.new }
     {
         match self.admit(alloc, &turn) {
             Ok(named) => self.take_named(alloc, turn, named, children, report),
@@ -170,6 +171,7 @@ impl Run {
         ensures broken { IsErrOf result StepError.OutOfMemory → Breaks self.old self.new }
         ensures part { let o = outside R.faults report.old report.new children.old children.new in
             OnErr result (BreaksOff R.told C.asked o self.old.settings self.old.journal turn) }
+        ensures turns { Retains R.taken report.old report.new }
     {
         let settings = self.settings.get();
         match carry_out(
@@ -221,6 +223,7 @@ impl Run {
             self.old.broken ≡ true → IsUntouched self.old self.new o }
         ensures heard { IsHeard R.told C.asked report.old children.old self.old
             → IsHeard R.told C.asked report.new children.new self.new }
+        ensures turns { Retains R.taken report.old report.new }
     {
         let place = self.journal.len() as u64;
         match self.take(alloc, turn, children, report) {
@@ -265,6 +268,7 @@ impl Run {
             self.old.broken ≡ true → IsUntouched self.old self.new o }
         ensures heard { IsHeard R.told C.asked report.old children.old self.old
             → IsHeard R.told C.asked report.new children.new self.new }
+        ensures turns { Retains R.taken report.old report.new }
     {
         if self.broken {
             return Err(StepError::OutOfMemory);

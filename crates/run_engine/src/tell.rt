@@ -4,7 +4,7 @@ ghost use Rattle.std.specs.Prelude.{OnErr};
 ghost use Rattle.std.specs.Prelude.{option_to_list, None};
 ghost use Rattle.std.specs.VecDeque.{deque_len, deque_capacity};
 ghost use Rattle.std.specs.List.{list_all};
-ghost use Rattle.run_events.specs.Tell.{Adds};
+ghost use Rattle.run_events.specs.Tell.{Adds, Retains};
 ghost use Rattle.run_engine.specs.World.{TellsEvents, CountsErrors, earlier};
 ghost use Rattle.run_engine.specs.Broken.{TellsSome};
 ghost use Rattle.run_engine.specs.Starts.{start_among};
@@ -33,6 +33,7 @@ fn tell_one<R: Reporter>(
         (R.faults report.new) refusal) }
     ensures none { OnErr result (TellsEvents R.told report.old report.new [] None) }
     ensures still { OnErr result (R.faults report.new ≡ R.faults report.old) }
+    ensures turns { Retains R.taken report.old report.new }
 {
     match report.report(alloc, event) {
         Ok(()) => Ok(None),
@@ -56,6 +57,7 @@ fn tell_marked<R: Reporter>(
     ensures part { OnErr result (TellsSome R.told report.old report.new (R.faults report.old)
         (R.faults report.new)
         (event.now ∷ [])) }
+    ensures turns { Retains R.taken report.old report.new }
 {
     let refusal = tell_one(alloc, report, event)?;
     refused.push(alloc, refusal.is_some())?;
@@ -87,6 +89,7 @@ pub fn tell<R: Reporter>(
     ensures part { OnErr result (TellsSome R.told report.old report.new (R.faults report.old)
         (R.faults report.new)
         events.now) }
+    ensures turns { Retains R.taken report.old report.new }
 {
     let mut refused = Refusals::new();
     let mut refusal = None;

@@ -13,3 +13,7 @@ answered x (Err OutOfMemory) = []
 -- whatever list held before, a longer one holds after
 abbrev pub Adds : {S X : Type 0} → (S → List X → Type 0) → S → S → List X → Type 0
 Adds {S} {X} holds before after more = (xs : List X) → holds before xs → holds after (xs ++ more)
+
+-- whatever list held before, holds after
+abbrev pub Retains : {S X : Type 0} → (S → List X → Type 0) → S → S → Type 0
+Retains {S} {X} holds before after = (xs : List X) → holds before xs → holds after xs

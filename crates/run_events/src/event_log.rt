@@ -1,9 +1,9 @@
 // A reporter that keeps what it is told.
 ghost use Rattle.std.specs.Prelude.{ℕ, ◌≡◌, List, [], ◌++◌, Option};
-ghost use Rattle.run_events.specs.Tell.{answered, Adds};
+ghost use Rattle.run_events.specs.Tell.{answered, Adds, Retains};
 ghost use Rattle.run_events.specs.Counts.{CountsRefusal};
 
-use crate::{ReportFault, Reporter, ReporterEvent};
+use crate::{ReportFault, Reporter, ReporterEvent, Turn};
 use run_capture::{Duplicate, List};
 use std::alloc::Global;
 use std::convert::Infallible;
@@ -45,11 +45,14 @@ impl EventLog {
 impl Reporter for EventLog {
     type Error = Infallible;
 
-    ghost use Rattle.std.specs.Prelude.{map};
+    ghost use Rattle.std.specs.Prelude.{map, ⊤};
 
     ghost told = { λ log xs. log ≡ map (λ x. x.0) xs };
 
     ghost faults = { λ _. 0 };
+
+    // It doesn't keep turns.
+    ghost taken = { λ _ _. ⊤ };
 
     fn report(
         &mut self,
@@ -64,4 +67,6 @@ impl Reporter for EventLog {
             Err(_) => Err(ReportFault::OutOfMemory),
         }
     }
+
+    fn took(&mut self, _alloc: Global, _turn: &Turn) {}
 }

@@ -1,6 +1,6 @@
 // What a generated run speaks to: a reporter that counts events, and children that are asked in vain.
 use run_capture::Mem;
-use run_events::{Ask, Children, ReportFault, Reporter, ReporterEvent};
+use run_events::{Ask, Children, ReportFault, Reporter, ReporterEvent, Turn};
 use std::alloc::Global;
 use std::convert::Infallible;
 
@@ -13,11 +13,15 @@ pub(crate) struct Counter {
 impl Reporter for Counter {
     type Error = Infallible;
 
+    ghost use Rattle.std.specs.Prelude.{⊤};
     ghost use Rattle.run_generate.specs.OnWay.{counts};
 
     ghost told = { λ counter xs. counts counter xs };
 
     ghost faults = { λ _. 0 };
+
+    // It doesn't keep turns.
+    ghost taken = { λ _ _. ⊤ };
 
     fn report(
         &mut self,
@@ -27,6 +31,8 @@ impl Reporter for Counter {
         self.events = self.events.saturating_add(1);
         Ok(())
     }
+
+    fn took(&mut self, _alloc: Global, _turn: &Turn) {}
 }
 
 /// No child: which attempt a unit is at the run says itself.

@@ -9,7 +9,7 @@ ghost use Rattle.run_jobs.specs.States.{result_told};
 
 use crate::job::JobState;
 use run_capture::Mem;
-use run_events::{ExecuteStatus, ReportFault, Reporter, ReporterEvent, TestEventKind};
+use run_events::{ExecuteStatus, ReportFault, Reporter, ReporterEvent, TestEventKind, Turn};
 use std::alloc::Global;
 use std::collections::BTreeMap;
 use std::convert::Infallible;
@@ -98,12 +98,15 @@ impl Results {
 impl Reporter for Results {
     type Error = Infallible;
 
-    ghost use Rattle.std.specs.Prelude.{map};
+    ghost use Rattle.std.specs.Prelude.{map, ⊤};
     ghost use Rattle.run_jobs.specs.Ledgers.{IsResultsOf};
 
     ghost told = { λ results xs. IsResultsOf results (map (λ x. x.0) xs) };
 
     ghost faults = { λ _. 0 };
+
+    // It doesn't keep turns.
+    ghost taken = { λ _ _. ⊤ };
 
     fn report(
         &mut self,
@@ -115,4 +118,6 @@ impl Reporter for Results {
             Err(_) => Err(ReportFault::OutOfMemory),
         }
     }
+
+    fn took(&mut self, _alloc: Global, _turn: &Turn) {}
 }

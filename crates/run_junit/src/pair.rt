@@ -35,9 +35,13 @@ impl<A: Listener, B: Listener> Pair<A, B> {
 }
 
 impl<A: Listener, B: Listener> Listener for Pair<A, B> {
+    ghost use Rattle.std.specs.Prelude.{⊤};
     ghost use Rattle.run_junit.specs.Pair.{BothHeard};
 
     ghost heard = { λ p events. BothHeard A.heard B.heard p.first p.second events };
+
+    // Both hear each turn, and no listener of a pair keeps turns.
+    ghost taken = { λ _ _. ⊤ };
 
     fn hear(&mut self, alloc: Global, event: &ReporterEvent) {
         self.first.hear(alloc, event);

@@ -9,7 +9,7 @@ ghost use Rattle.run_junit.specs.Heard.{Remembers};
 use crate::heard::Heard;
 use crate::write::write_heard;
 use run_capture::{Failed, Mem, OutOfMemory, Sink};
-use run_events::{ReportFault, ReporterEvent};
+use run_events::{ReportFault, ReporterEvent, Turn};
 use run_report::Listener;
 use std::alloc::Global;
 use std::mem;
@@ -65,9 +65,13 @@ fn hear_more(
 }
 
 impl Listener for JUnitReport {
+    ghost use Rattle.std.specs.Prelude.{⊤};
     ghost use Rattle.run_junit.specs.Heard.{Remembers};
 
     ghost heard = { λ r events. Remembers r.started r.heard events };
+
+    // It doesn't keep turns.
+    ghost taken = { λ _ _. ⊤ };
 
     fn hear(&mut self, alloc: Global, event: &ReporterEvent)
         ensures heard { Adds (λ r events. Remembers r.started r.heard events) self.old self.new (event.now ∷ []) }
@@ -76,4 +80,6 @@ impl Listener for JUnitReport {
         let heard = mem::replace(&mut self.heard, Err(OutOfMemory));
         self.heard = hear_more(alloc, self.started, heard, event);
     }
+
+    fn hear_turn(&mut self, _alloc: Global, _turn: &Turn) {}
 }

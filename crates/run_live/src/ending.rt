@@ -6,7 +6,8 @@ ghost use Rattle.std.specs.List.{All, sum_by};
 ghost use Rattle.run_model.specs.Words.{times};
 ghost use Rattle.run_shared.specs.Receipts.{concatenated, receipt_numbers, StandsIn};
 ghost use Rattle.run_shared.specs.Closed.{IsLeft, IsLeftUnclosed, Refuses};
-ghost use Rattle.run_live.specs.Left.{HasToldSome};
+ghost use Rattle.run_laws.specs.Course.{turns_of};
+ghost use Rattle.run_live.specs.Left.{HasToldSome, HasTakenSome};
 ghost use Rattle.run_live.specs.Own.{IsLive, IsTicker};
 ghost use Rattle.run_live.specs.Work.{IsWholeWork};
 
@@ -191,6 +192,8 @@ pub(crate) fn finish<W: Spawner + Drop, T: Ticker + Drop, L: Ledger, R: Reporter
     ensures ticker { IfOk result (λ l. IsTicker T.has_told l.ticker (length l.live.workers.items) l.live.receipts
         l.live.refused) }
     ensures given_up { IfErr result (HasToldSome R.told) }
+    ensures turns { IfOk result (λ l. R.taken l.report (turns_of l.live.journal)) }
+    ensures turns_given_up { IfErr result (HasTakenSome R.taken) }
 {
     let Gathered {
         workers,
@@ -228,7 +231,8 @@ fn report_closed<R: Reporter>(closed: Closed<R>) -> R
 
 /// The reporter of a run that is thrown away.
 pub fn report_of<L: Ledger, R: Reporter>(alloc: Global, shared: SharedRun<L, R>) -> R
-    ensures { HasToldSome R.told result }
+    ensures told { HasToldSome R.told result }
+    ensures turns { HasTakenSome R.taken result }
 {
     match shared.close(alloc, Vec::new(alloc), List::new()) {
         Ok(closed) => report_closed(closed),

@@ -4,7 +4,8 @@ ghost use Rattle.std.specs.List.{All, sum_by};
 ghost use Rattle.run_model.specs.Words.{times};
 ghost use Rattle.run_shared.specs.Receipts.{concatenated, receipt_numbers, StandsIn};
 ghost use Rattle.run_shared.specs.Closed.{IsLeft, IsLeftUnclosed, Refuses};
-ghost use Rattle.run_live.specs.Left.{HasToldSome};
+ghost use Rattle.run_laws.specs.Course.{turns_of};
+ghost use Rattle.run_live.specs.Left.{HasToldSome, HasTakenSome};
 ghost use Rattle.run_live.specs.Own.{IsLive, IsTicker};
 ghost use Rattle.run_live.specs.Work.{IsOneEmpty, IsFresh, IsSetOut, IsWholeWork};
 
@@ -157,6 +158,8 @@ where
     ensures ticker { IfOk result (λ l. IsTicker H.Tick.has_told l.ticker (length l.live.workers.items)
         l.live.receipts l.live.refused) }
     ensures given_up { IfErr result (HasToldSome R.told) }
+    ensures turns { IfOk result (λ l. R.taken l.report (turns_of l.live.journal)) }
+    ensures turns_given_up { IfErr result (HasTakenSome R.taken) }
 {
     match run_shares(rt, alloc, &shared, host, shares) {
         Ok((all, ticker)) => finish(alloc, shared, all, ticker),
@@ -177,6 +180,7 @@ fn live_in<H: Host, L: Ledger + Send + Sync, R: Reporter + Send, X: Threads + Wa
 where
     R::Error: Send,
     requires report { R.told report [] }
+    requires untaken { R.taken report [] }
     requires name { blank.name ≡ L.name }
     requires parts { blank.parts ≡ L.parts }
     requires all { blank.parts ≡ workers + 1 }
@@ -198,6 +202,8 @@ where
     ensures ticker { IfOk result (λ l. IsTicker H.Tick.has_told l.ticker (length l.live.workers.items)
         l.live.receipts l.live.refused) }
     ensures given_up { IfErr result (HasToldSome R.told) }
+    ensures turns { IfOk result (λ l. R.taken l.report (turns_of l.live.journal)) }
+    ensures turns_given_up { IfErr result (HasTakenSome R.taken) }
 {
     let made = SharedRun::<L, R>::new(alloc, runner, report, u64::from(workers) + 1, blank);
     match made {
@@ -219,7 +225,8 @@ pub fn live<H: Host, R: Reporter + Send, X: Threads + Wait + Sync>(
 ) -> Result<Lived<H::Worker, H::Tick, R>, R>
 where
     R::Error: Send,
-    requires { R.told report [] }
+    requires report { R.told report [] }
+    requires untaken { R.taken report [] }
     ensures workers { IfOk result (λ l. length l.live.workers.items ≡ workers) }
     ensures left { IfOk result (λ l. IsNone l.live.error
         → IsLeft R.told l.report l.asks runner l.live.journal l.outcome) }
@@ -238,6 +245,8 @@ where
     ensures ticker { IfOk result (λ l. IsTicker H.Tick.has_told l.ticker (length l.live.workers.items)
         l.live.receipts l.live.refused) }
     ensures given_up { IfErr result (HasToldSome R.told) }
+    ensures turns { IfOk result (λ l. R.taken l.report (turns_of l.live.journal)) }
+    ensures turns_given_up { IfErr result (HasTakenSome R.taken) }
 {
     let blank = Blank::new(u64::from(workers) + 1);
     live_in::<H, Brand, R, X>(rt, alloc, runner, workers, host, report, blank)

@@ -5,7 +5,7 @@ ghost use Rattle.run_events.specs.Counts.{CountsRefusal};
 
 use crate::events::whole_event_line;
 use run_capture::{Failed, Sink};
-use run_events::{ReportFault, Reporter, ReporterEvent};
+use run_events::{ReportFault, Reporter, ReporterEvent, Turn};
 use std::alloc::Global;
 use std::snapshot::Snapshot;
 
@@ -62,12 +62,16 @@ impl<K: Sink> LineReporter<K> {
 impl<K: Sink> Reporter for LineReporter<K> {
     type Error = Failed;
 
+    ghost use Rattle.std.specs.Prelude.{⊤};
     ghost use Rattle.run_output.specs.Told.{HasTold, event_lines};
 
     ghost told = { λ r answers. HasTold (K.taken r.start.value) (K.taken r.sink)
         (K.faults r.start.value) (K.faults r.sink) r.refusals (event_lines answers) };
 
     ghost faults = { λ r. r.refusals };
+
+    // It doesn't keep turns.
+    ghost taken = { λ _ _. ⊤ };
 
     fn report(&mut self, alloc: Global, event: &ReporterEvent) -> Result<(), ReportFault<Failed>>
         ensures told { Adds (λ r answers. HasTold (K.taken r.start.value) (K.taken r.sink)
@@ -89,4 +93,6 @@ impl<K: Sink> Reporter for LineReporter<K> {
             }
         }
     }
+
+    fn took(&mut self, _alloc: Global, _turn: &Turn) {}
 }

@@ -6,7 +6,7 @@ ghost use Rattle.run_output.specs.Shown.{HasShown, first_screen, screen_of};
 
 use crate::watcher::Watcher;
 use run_capture::{Failed, List, Sink, write_all};
-use run_events::{ReportFault, Reporter, ReporterEvent, RunMode};
+use run_events::{ReportFault, Reporter, ReporterEvent, RunMode, Turn};
 use run_progress::MaxProgressRunning;
 use std::alloc::Global;
 use std::snapshot::Snapshot;
@@ -76,6 +76,7 @@ impl<K: Sink> ProgressReporter<K> {
 impl<K: Sink> Reporter for ProgressReporter<K> {
     type Error = Failed;
 
+    ghost use Rattle.std.specs.Prelude.{⊤};
     ghost use Rattle.run_output.specs.Shown.{HasShown, screen_of};
 
     ghost told = { λ r answers. HasShown (screen_of r.first.value) r.watcher
@@ -83,6 +84,9 @@ impl<K: Sink> Reporter for ProgressReporter<K> {
         r.refusals answers };
 
     ghost faults = { λ r. r.refusals };
+
+    // It doesn't keep turns.
+    ghost taken = { λ _ _. ⊤ };
 
     fn report(&mut self, alloc: Global, event: &ReporterEvent) -> Result<(), ReportFault<Failed>>
         ensures told { Adds (λ r answers. HasShown (screen_of r.first.value) r.watcher
@@ -105,4 +109,6 @@ impl<K: Sink> Reporter for ProgressReporter<K> {
             }
         }
     }
+
+    fn took(&mut self, _alloc: Global, _turn: &Turn) {}
 }

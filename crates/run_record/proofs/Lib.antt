@@ -1,5 +1,3 @@
 mod RecordLemmas
 mod KeptLemmas
-mod TurnLemmas
-mod AgreedLemmas
 mod HeardLemmas

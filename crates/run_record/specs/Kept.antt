@@ -2,8 +2,6 @@
 use Rattle.std.specs.Prelude.{ℕ, ◌≡◌, List, ◌++◌, Bool, Option, Some, None, Result, Ok, Err}
 use Rattle.run_capture.specs.declared.sink.Sink.{Ghosts as OfSink}
 use Rattle.run_events.specs.declared.turn.Turn.{Turn}
-use Rattle.run_store.specs.Stores.{store_text}
-use Rattle.run_store_io.specs.Taken.{TakesUpTo}
 use Rattle.run_store_io.specs.Written.{IsOpen, sink_of}
 use Rattle.run_store_io.specs.declared.error.StoreError.{StoreError}
 use Rattle.run_store_io.specs.declared.error.StoreError.TheVariants.{Write, TooLong}
@@ -18,20 +16,14 @@ abbrev pub writing_since : {F : Type 0} → OfSink F → Option (List ℕ) → �
 writing_since s taken faults after =
     record { taken = taken; taken_after = s.taken after; faults = faults; faults_after = s.faults after }
 
--- a store was given up after these turns: a front part of it is there, and it is the record of each run that takes
--- these turns first
-pub record IsGivenUp {F : Type 0} (s : OfSink F) (taken : Option (List ℕ)) (faults : ℕ) (line : List ℕ)
-    (turns : List Turn) (sink : F) (end : RecordOutcome) : Type 0 where
-  pub part : TakesUpTo taken (s.taken sink) (store_text line turns)
-  pub stands : (over : Bool) (more : List Turn)
-      → IsRunRecord over line (turns ++ more) (writing_since s taken faults sink) end
-
 -- a store of this plan line that was told of these turns, whose sink had taken those bytes and failed so often before:
--- it has them all; or it was given up; or it wasn't begun, whatever turns the run takes
+-- it has them all; or it was given up, and is the record of each run that takes these turns first; or it wasn't begun,
+-- whatever turns the run takes
 abbrev pub IsUnderway : {F : Type 0} → OfSink F → Option (List ℕ) → ℕ → List ℕ
     → Result (StoreWriter F) (RecordOutcome × F) → List Turn → Option RecordOutcome → Type 0
 IsUnderway s taken faults line (Ok w) turns None = IsOpen s taken line turns w × (s.faults (sink_of w) ≡ faults)
-IsUnderway s taken faults line (Ok w) turns (Some end) = IsGivenUp s taken faults line turns (sink_of w) end
+IsUnderway s taken faults line (Ok w) turns (Some end) = (over : Bool) (more : List Turn)
+    → IsRunRecord over line (turns ++ more) (writing_since s taken faults (sink_of w)) end
 IsUnderway s taken faults line (Err e) turns given_up =
     (over : Bool) (all : List Turn) → IsRunRecord over line all (writing_since s taken faults e.1) e.0
 

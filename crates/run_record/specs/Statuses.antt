@@ -3,7 +3,7 @@ use Rattle.std.specs.Prelude.{ℕ, ◌==◌, ◌∷◌, [], Bool, if◌then◌el
 use Rattle.std.specs.List.{list_any}
 use Rattle.run_record.specs.declared.outcome.RecordOutcome.{RecordOutcome}
 use Rattle.run_record.specs.declared.outcome.RecordOutcome.TheVariants.{Recorded, Planless, Unwritten, Unstorable}
-use Rattle.run_record.specs.declared.outcome.RecordOutcome.TheVariants.{NoMemory, OtherTurns}
+use Rattle.run_record.specs.declared.outcome.RecordOutcome.TheVariants.{NoMemory}
 
 -- the statuses of a run that is over: those of outcomes, and that of a refused event
 abbrev pub is_over_status : ℕ → Bool
@@ -16,7 +16,6 @@ status_for_outcome Planless status = status
 status_for_outcome Unwritten status = 9
 status_for_outcome Unstorable status = 12
 status_for_outcome NoMemory status = 11
-status_for_outcome OtherTurns status = 9
 
 -- the status of a recorded run: any other run keeps its own
 abbrev pub recorded_status : RecordOutcome → ℕ → ℕ

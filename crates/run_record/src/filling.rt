@@ -1,5 +1,5 @@
 // The store of a run, from its plan line to its end.
-ghost use Rattle.std.specs.Prelude.{◌≡◌, ◌∷◌, ◌++◌, [], ℕ, List, Option, None, Ok as AnOk, false, true, OnOk, OnErr};
+ghost use Rattle.std.specs.Prelude.{◌≡◌, ◌∷◌, ◌++◌, [], ℕ, List, Option, None, Ok as AnOk, false, true};
 ghost use Rattle.run_events.specs.declared.turn.Turn.{Turn as TurnValue};
 ghost use Rattle.run_store.specs.Stores.{is_plan_payload};
 ghost use Rattle.run_store_io.specs.Written.{IsOpen, is_closed, sink_of};
@@ -7,7 +7,7 @@ ghost use Rattle.run_record.specs.Kept.{IsUnderway, outcome_for, writing_since};
 ghost use Rattle.run_record.specs.Recorded.{IsRunRecord};
 
 use crate::RecordOutcome;
-use run_capture::{Duplicate, List as Items, Mem, OutOfMemory, Sink};
+use run_capture::{OutOfMemory, Sink};
 use run_events::Turn;
 use run_store_io::{StoreError, StoreWriter, is_plan_payload};
 use std::alloc::Global;
@@ -48,29 +48,16 @@ pub(crate) fn begin<F: Sink>(alloc: Global, line: &[u8], sink: F) -> Begun<F>
     }
 }
 
-// Adds a copy of a turn to those of which a record was told.
-fn keep_copy(alloc: Global, turns: &mut Items<Turn>, turn: &Turn) -> Mem<()>
-    ensures ok { OnOk result (turns.new ≡ turns.old ++ turn.now ∷ []) }
-    ensures err { OnErr result (turns.new ≡ turns.old) }
-{
-    let copy = turn.copy(alloc)?;
-    turns.push(alloc, copy)
-}
-
-// Adds a turn to a store, and to those of which it was told; or says what becomes of the record.
+// Adds a turn to a store, or says what becomes of the record.
 fn add_turn<F: Sink>(
     alloc: Global,
     writer: &mut StoreWriter<F>,
-    turns: &mut Items<Turn>,
     turn: &Turn,
 ) -> Option<RecordOutcome>
-    ensures { (taken : Option (List ℕ)) (faults : ℕ) (line : List ℕ)
-        → IsUnderway F.Sink taken faults line (AnOk writer.old) turns.old None
-        → IsUnderway F.Sink taken faults line (AnOk writer.new) turns.new result }
+    ensures { (taken : Option (List ℕ)) (faults : ℕ) (line : List ℕ) (turns : List TurnValue)
+        → IsUnderway F.Sink taken faults line (AnOk writer.old) turns None
+        → IsUnderway F.Sink taken faults line (AnOk writer.new) (turns ++ turn.now ∷ []) result }
 {
-    let Ok(()) = keep_copy(alloc, turns, turn) else {
-        return Some(RecordOutcome::NoMemory);
-    };
     match writer.turn(alloc, turn) {
         Ok(()) => None,
         Err(error) => Some(outcome_for(error)),
@@ -81,18 +68,17 @@ fn add_turn<F: Sink>(
 pub(crate) fn add_to<F: Sink>(
     alloc: Global,
     begun: &mut Begun<F>,
-    turns: &mut Items<Turn>,
     given_up: Option<RecordOutcome>,
     turn: &Turn,
 ) -> Option<RecordOutcome>
-    ensures { (taken : Option (List ℕ)) (faults : ℕ) (line : List ℕ)
-        → IsUnderway F.Sink taken faults line begun.old turns.old given_up
-        → IsUnderway F.Sink taken faults line begun.new turns.new result }
+    ensures { (taken : Option (List ℕ)) (faults : ℕ) (line : List ℕ) (turns : List TurnValue)
+        → IsUnderway F.Sink taken faults line begun.old turns given_up
+        → IsUnderway F.Sink taken faults line begun.new (turns ++ turn.now ∷ []) result }
 {
     match given_up {
         Some(_) => given_up,
         None => match begun {
-            Ok(writer) => add_turn(alloc, writer, turns, turn),
+            Ok(writer) => add_turn(alloc, writer, turn),
             Err(_) => None,
         },
     }

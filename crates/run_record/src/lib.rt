@@ -2,7 +2,6 @@
 //! takes it. It stands on that run, and on the writer of stores.
 #![tactic(auto)]
 
-mod agreeing;
 mod filling;
 mod keeping;
 mod outcome;

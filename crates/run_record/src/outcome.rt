@@ -15,8 +15,6 @@ pub enum RecordOutcome {
     Unstorable,
     /// Memory was wanting.
     NoMemory,
-    /// Other turns were told of than the journal has.
-    OtherTurns,
 }
 
 /// Whether a run with this status is over: it has an outcome, or an event of it was refused.
@@ -33,7 +31,7 @@ impl RecordOutcome {
     {
         match self {
             RecordOutcome::Recorded | RecordOutcome::Planless => status,
-            RecordOutcome::Unwritten | RecordOutcome::OtherTurns => 9,
+            RecordOutcome::Unwritten => 9,
             RecordOutcome::Unstorable => 12,
             RecordOutcome::NoMemory => 11,
         }

@@ -1,23 +1,17 @@
 // The top call: the run of a plan line, and its record.
-ghost use Rattle.std.specs.Prelude.{◌≡◌, [], List, IfSome, true};
-ghost use Rattle.run_events.specs.declared.turn.Turn.{Turn as TurnValue};
-ghost use Rattle.run_laws.specs.Course.{turns_of};
+ghost use Rattle.std.specs.Prelude.{◌≡◌, [], IfSome, true};
 ghost use Rattle.run_cli.specs.Call.{writing_of};
 ghost use Rattle.run_cli.specs.Live.{is_unbegun};
 ghost use Rattle.run_whole_cli.specs.Hears.{HasHeardPlan};
 ghost use Rattle.run_whole_cli.specs.Relations.{relations};
-ghost use Rattle.run_record.specs.Kept.{writing_since};
-ghost use Rattle.run_record.specs.Answers.{AnswersRecorded, turns_left};
-ghost use Rattle.run_record.specs.Recorded.{IsRunRecord};
+ghost use Rattle.run_record.specs.Answers.{AnswersRecorded};
 
 use crate::RecordOutcome;
 use crate::filling::begin;
 use crate::keeping::{Keeping, RecordOrigin, Recording};
 use crate::outcome::is_over;
 use run_capture::Sink;
-use run_drive::Ticker;
-use run_keep::{Halter, Keeper, KeeperHost, Outside};
-use run_model::Entry;
+use run_keep::{Halter, KeeperHost, Outside};
 use run_report::Listener;
 use run_whole_cli::{Around, Ran, WholeLeft, run_plan};
 use std::alloc::Global;
@@ -34,36 +28,6 @@ pub struct Recorded<K, F, L, B> {
     pub store: F,
     pub left: Option<L>,
     pub report: B,
-}
-
-// The journal of what is left of a run.
-fn journal_of<W: Keeper + Drop, T: Ticker + Drop, O: Outside + Drop, S: Halter + Drop>(
-    left: &WholeLeft<W, T, O, S>,
-) -> &[Entry]
-    ensures { turns_of result.now ≡ turns_left left.now }
-{
-    match left {
-        WholeLeft::Run(run) => run.journal.as_slice(),
-        WholeLeft::CutOff(cut_off) => cut_off.journal.as_slice(),
-    }
-}
-
-// Ends the record of a run of which this is left.
-fn end_record<
-    F: Sink,
-    G: RecordOrigin,
-    W: Keeper + Drop,
-    T: Ticker + Drop,
-    O: Outside + Drop,
-    S: Halter + Drop,
->(keeping: Keeping<F, G>, left: &Option<WholeLeft<W, T, O, S>>, over: bool) -> (RecordOutcome, F)
-    ensures { (turns : List TurnValue) × IfSome left.now (λ l. turns ≡ turns_left l)
-        × IsRunRecord over G.plan_line turns (writing_since F.Sink G.taken_before G.faults_before result.1) result.0 }
-{
-    match left {
-        Some(left) => keeping.finish(Some(journal_of(left)), over),
-        None => keeping.finish(None, over),
-    }
 }
 
 // Runs the plan of a line and records it, with the beginning of its record as the type's.
@@ -106,7 +70,7 @@ fn run_at<
         rt, alloc, line, sink, recording, host, around,
     );
     let Recording { report, keeping } = recording;
-    let (outcome, store) = end_record(keeping, &left, is_over(own));
+    let (outcome, store) = keeping.finish(is_over(own));
     let ran = Ran {
         status: outcome.status(own),
         sink,

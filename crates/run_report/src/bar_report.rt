@@ -11,7 +11,7 @@ ghost use Rattle.run_report.specs.Bar.{bar_shown, DrawnAt, HasSeen};
 use crate::style::push_char;
 use crate::{Board, Listener};
 use run_capture::Mem;
-use run_events::{ReporterEvent, RunMode, TestEvent};
+use run_events::{ReporterEvent, RunMode, TestEvent, Turn};
 use run_progress::{LiveProgress, MaxProgressRunning};
 use std::alloc::Global;
 use std::time::{Clock, Instant};
@@ -161,7 +161,12 @@ impl<A: Board, C: Clock + Drop> BarReport<A, C> {
 }
 
 impl<A: Board, C: Clock + Drop> Listener for BarReport<A, C> {
+    ghost use Rattle.std.specs.Prelude.{⊤};
+
     ghost heard = { λ b events. A.heard b.report events × IfSome b.bar (λ bar. HasSeen events bar.state) };
+
+    // It hands no turn on to the board.
+    ghost taken = { λ _ _. ⊤ };
 
     fn hear(&mut self, alloc: Global, event: &ReporterEvent)
         ensures heard { Adds (λ b events. A.heard b.report events × IfSome b.bar (λ bar. HasSeen events bar.state))
@@ -176,4 +181,6 @@ impl<A: Board, C: Clock + Drop> Listener for BarReport<A, C> {
             self.bar = bar.after(alloc, &mut self.report, event);
         }
     }
+
+    fn hear_turn(&mut self, _alloc: Global, _turn: &Turn) {}
 }

@@ -1,6 +1,6 @@
 // A reporter with a listener beside it.
 ghost use Rattle.std.specs.Prelude.{◌≡◌};
-ghost use Rattle.run_events.specs.Tell.{answered, Adds};
+ghost use Rattle.run_events.specs.Tell.{answered, Adds, Retains};
 ghost use Rattle.run_events.specs.Counts.{CountsRefusal};
 
 use crate::Listener;
@@ -48,6 +48,8 @@ impl<A: Reporter, B: Listener> Reporter for Both<A, B> {
     ghost told = { λ b answers. BothTold A.told B.heard b.lines b.report answers };
 
     ghost faults = { λ b. A.faults b.lines };
+
+    ghost taken = { λ b turns. A.taken b.lines turns × B.taken b.report turns };
 
     fn report(
         &mut self,

@@ -12,7 +12,7 @@ use crate::bar_sink::BarSink;
 use crate::heard::Heard;
 use crate::{Board, Listener, ReportSettings};
 use run_capture::{Failed, Sink};
-use run_events::{ReportFault, Reporter, ReporterEvent};
+use run_events::{ReportFault, Reporter, ReporterEvent, Turn};
 use std::alloc::Global;
 use std::convert::Infallible;
 use std::snapshot::Snapshot;
@@ -97,10 +97,14 @@ impl<K: Sink> RunReport<K> {
 }
 
 impl<K: Sink> Listener for RunReport<K> {
+    ghost use Rattle.std.specs.Prelude.{⊤};
     ghost use Rattle.run_report.specs.Speaks.{Speaks};
 
     ghost heard = { λ r events. Speaks r.settings (K.taken r.start.value) (K.taken r.sink)
         (K.faults r.start.value) (K.faults r.sink) r.went r.heard events };
+
+    // It doesn't keep turns.
+    ghost taken = { λ _ _. ⊤ };
 
     fn hear(&mut self, alloc: Global, event: &ReporterEvent)
         ensures heard { Adds (λ r events. Speaks r.settings (K.taken r.start.value) (K.taken r.sink)
@@ -120,6 +124,8 @@ impl<K: Sink> Listener for RunReport<K> {
             );
         }
     }
+
+    fn hear_turn(&mut self, _alloc: Global, _turn: &Turn) {}
 }
 
 impl<K: Sink> Board for RunReport<BarSink<K>> {
@@ -141,11 +147,14 @@ impl<K: Sink> Board for RunReport<BarSink<K>> {
 impl<K: Sink> Reporter for RunReport<K> {
     type Error = Infallible;
 
-    ghost use Rattle.std.specs.Prelude.{map};
+    ghost use Rattle.std.specs.Prelude.{map, ⊤};
 
     ghost told = { λ r answers. ⟦<RunReport<K> as Listener>⟧.heard r (map (λ answer. answer.0) answers) };
 
     ghost faults = { λ _. 0 };
+
+    // It doesn't keep turns.
+    ghost taken = { λ _ _. ⊤ };
 
     fn report(
         &mut self,
@@ -161,4 +170,6 @@ impl<K: Sink> Reporter for RunReport<K> {
         self.hear(alloc, event);
         Ok(())
     }
+
+    fn took(&mut self, _alloc: Global, _turn: &Turn) {}
 }

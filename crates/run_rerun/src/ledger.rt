@@ -12,7 +12,7 @@ ghost use Rattle.run_rerun.specs.Outstanding.{adds_pass, finish_told};
 use run_capture::Mem;
 use run_events::{
     ExecuteStatus, ExecutionResult, ReportFault, Reporter, ReporterEvent, RunStats, TestEventKind,
-    TestFinish,
+    TestFinish, Turn,
 };
 use std::alloc::Global;
 use std::collections::BTreeMap;
@@ -111,12 +111,15 @@ impl Ledger {
 impl Reporter for Ledger {
     type Error = Infallible;
 
-    ghost use Rattle.std.specs.Prelude.{map};
+    ghost use Rattle.std.specs.Prelude.{map, ⊤};
     ghost use Rattle.run_rerun.specs.Ledgers.{IsLedgerOf};
 
     ghost told = { λ ledger xs. IsLedgerOf ledger (map (λ x. x.0) xs) };
 
     ghost faults = { λ _. 0 };
+
+    // It doesn't keep turns.
+    ghost taken = { λ _ _. ⊤ };
 
     fn report(
         &mut self,
@@ -128,4 +131,6 @@ impl Reporter for Ledger {
             Err(_) => Err(ReportFault::OutOfMemory),
         }
     }
+
+    fn took(&mut self, _alloc: Global, _turn: &Turn) {}
 }

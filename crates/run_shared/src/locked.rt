@@ -1,9 +1,11 @@
 // What stands under the lock.
-ghost use Rattle.std.specs.Prelude.{◌≡◌, ◌<◌, ◌+◌, [], length, IfOk, IfErr, OnOk, OnErr, IsErrOf, IfSome, IsSome};
-ghost use Rattle.std.specs.Prelude.{IsNone, ℕ, List, Option, option_map, slice_get, true, false, if◌then◌else◌};
+ghost use Rattle.std.specs.Prelude.{◌≡◌, ◌<◌, ◌+◌, ◌∷◌, ◌++◌, [], length, IfOk, IfErr, OnOk, OnErr, IsErrOf, IfSome};
+ghost use Rattle.std.specs.Prelude.{IsSome, IsNone, ℕ, List, Option, option_map, slice_get, true, false, if◌then◌else◌};
 ghost use Rattle.std.specs.List.{sum_by};
 ghost use Rattle.run_events.specs.declared.ask.Ask.{Ask as AskMade};
+ghost use Rattle.run_model.specs.declared.entry.Entry.{Entry as EntryKept};
 ghost use Rattle.run_model.specs.Words.{is_over};
+ghost use Rattle.run_laws.specs.Course.{turns_of};
 ghost use Rattle.run_engine.specs.World.{Breaks, history_of};
 ghost use Rattle.run_engine.specs.Standing.{sound, IsRunnable};
 ghost use Rattle.run_engine.specs.Starts.{starts_of};
@@ -32,6 +34,7 @@ pub struct Locked<L: Ledger, R: Reporter> {
 
 impl<L: Ledger, R: Reporter> Model for Locked<L, R> {
     ghost use Rattle.std.specs.Prelude.{◌≡◌, length};
+    ghost use Rattle.run_laws.specs.Course.{turns_of};
     ghost use Rattle.run_engine.specs.World.{World};
     ghost use Rattle.run_engine.specs.Heard.{IsHeard};
 
@@ -40,7 +43,7 @@ impl<L: Ledger, R: Reporter> Model for Locked<L, R> {
     ghost view = { λ s. s.run };
 
     ghost invariant = { λ s. (s.book.total ≡ length s.run.journal) × (s.rest.parts ≡ 0)
-        × IsHeard R.told (λ list xs. list ≡ xs) s.report s.asks s.run };
+        × IsHeard R.told (λ list xs. list ≡ xs) s.report s.asks s.run × R.taken s.report (turns_of s.run.journal) };
 }
 
 impl<L: Ledger, R: Reporter> Locked<L, R> {
@@ -50,6 +53,7 @@ impl<L: Ledger, R: Reporter> Locked<L, R> {
         requires book { book.total ≡ 0 }
         requires rest { rest.parts ≡ 0 }
         requires told { R.told report [] }
+        requires untaken { R.taken report [] }
         ensures { result ≡ run }
     {
         Locked {
@@ -167,6 +171,7 @@ impl<L: Ledger, R: Reporter> Locked<L, R> {
     pub(crate) fn into_parts(self, shares: Vec<Share<L>>) -> (Run, AskList, R)
         ensures run { result.0 ≡ self }
         ensures heard { IsHeard R.told (λ list xs. list ≡ xs) result.2 result.1 self }
+        ensures turns { R.taken result.2 (turns_of self.journal) }
         ensures counted { sum_by (λ (s : Share L). s.parts) shares.items ≡ L.parts
             → sum_by (λ (s : Share L). s.amount) shares.items ≡ length self.journal }
     {
@@ -187,8 +192,10 @@ impl<L: Ledger, R: Reporter> Locked<L, R> {
 
 // Tells a reporter of the newest turn of a run.
 fn tell_newest<R: Reporter>(alloc: Global, run: &Run, report: &mut R)
-    ensures { (asks : List (ℕ × AskMade)) → IsHeard R.told (λ list xs. list ≡ xs) report.old asks run.now
+    ensures heard { (asks : List (ℕ × AskMade)) → IsHeard R.told (λ list xs. list ≡ xs) report.old asks run.now
         → IsHeard R.told (λ list xs. list ≡ xs) report.new asks run.now }
+    ensures turns { (before : List EntryKept) (newest : EntryKept) → run.now.journal ≡ before ++ newest ∷ []
+        → R.taken report.old (turns_of before) → R.taken report.new (turns_of run.now.journal) }
 {
     let Some(entry) = run.journal().last() else {
         return;

@@ -8,6 +8,7 @@ ghost use Rattle.run_engine.specs.Heard.{IsHeard};
 ghost use Rattle.run_shared.specs.Receipts.{concatenated, Closes};
 ghost use Rattle.run_shared.specs.Closed.{HasSettings, IsLeft, IsLeftUnclosed, IsOther, Refuses};
 ghost use Rattle.run_model.specs.Journal.{past_of, outcome};
+ghost use Rattle.run_laws.specs.Course.{turns_of};
 
 use crate::beginning::{Begun, begin};
 use crate::closing::{CloseError, CloseKind};
@@ -142,6 +143,7 @@ fn closed_of<R: Reporter>(
     ensures left { IsHeard R.told (λ list xs. list ≡ xs) report asks run
         → IsLeft R.told result.report result.asks run.settings result.journal result.outcome }
     ensures journal { result.journal ≡ run.journal }
+    ensures report { result.report ≡ report }
     ensures back { result.receipts ≡ receipts }
 {
     let outcome = run.outcome();
@@ -168,6 +170,7 @@ fn unclosed_of<R: Reporter>(
         (outcome run.settings (past_of run.settings result.journal)) }
     ensures kind { result.error.kind ≡ kind }
     ensures journal { result.journal ≡ run.journal }
+    ensures report { result.report ≡ report }
     ensures back { result.receipts ≡ receipts }
 {
     let journal = run.into_journal();
@@ -190,12 +193,15 @@ fn leave<R: Reporter>(
     receipts: List<List<Receipt>>,
 ) -> Result<Closed<R>, Unclosed<R>>
     requires heard { IsHeard R.told (λ list xs. list ≡ xs) report asks run }
+    requires turns { R.taken report (turns_of run.journal) }
     ensures left { IfOk result (λ c. IsLeft R.told c.report c.asks given.now c.journal c.outcome) }
+    ensures turns { IfOk result (λ c. R.taken c.report (turns_of c.journal)) }
     ensures receipts { IfOk result (λ c. Closes c.journal (concatenated receipts)) }
     ensures journal { IfOk result (λ c. c.journal ≡ run.journal) }
     ensures back { IfOk result (λ c. c.receipts ≡ receipts) }
     ensures refused { IfErr result (λ u. Refuses given.now u.journal (concatenated receipts) u.error.kind) }
     ensures left_too { IfErr result (λ u. IsLeftUnclosed R.told u.report u.asks given.now u.journal u.error.kind) }
+    ensures turns_too { IfErr result (λ u. R.taken u.report (turns_of u.journal)) }
     ensures journal_too { IfErr result (λ u. u.journal ≡ run.journal) }
     ensures back_too { IfErr result (λ u. u.receipts ≡ receipts) }
 {
@@ -219,6 +225,7 @@ impl<L: Ledger, R: Reporter> SharedRun<L, R> {
         requires parts { blank.parts ≡ L.parts }
         requires workers { blank.parts ≡ workers }
         requires report { R.told report [] }
+        requires untaken { R.taken report [] }
         ensures settings { IfOk result (λ r. r.0 ≡ runner) }
         ensures count { IfOk result (λ r. vec_len r.1 ≡ workers) }
         ensures each { IfOk result (λ r. All (λ (s : Share L). (s.parts ≡ 1) × (s.amount ≡ 0)) r.1.items) }
@@ -349,12 +356,14 @@ impl<L: Ledger, R: Reporter> SharedRun<L, R> {
         receipts: List<List<Receipt>>,
     ) -> Result<Closed<R>, Unclosed<R>>
         ensures left { IfOk result (λ c. IsLeft R.told c.report c.asks self c.journal c.outcome) }
+        ensures turns { IfOk result (λ c. R.taken c.report (turns_of c.journal)) }
         ensures receipts { IfOk result (λ c. Closes c.journal (concatenated receipts)) }
         ensures counted { IfOk result (λ c. sum_by (λ (s : Share L). s.parts) shares.items ≡ L.parts
             → sum_by (λ (s : Share L). s.amount) shares.items ≡ length c.journal) }
         ensures back { IfOk result (λ c. c.receipts ≡ receipts) }
         ensures refused { IfErr result (λ u. Refuses self u.journal (concatenated receipts) u.error.kind) }
         ensures left_too { IfErr result (λ u. IsLeftUnclosed R.told u.report u.asks self u.journal u.error.kind) }
+        ensures turns_too { IfErr result (λ u. R.taken u.report (turns_of u.journal)) }
         ensures counted_too { IfErr result (λ u. sum_by (λ (s : Share L). s.parts) shares.items ≡ L.parts
             → sum_by (λ (s : Share L). s.amount) shares.items ≡ length u.journal) }
         ensures back_too { IfErr result (λ u. u.receipts ≡ receipts) }

@@ -4,7 +4,8 @@ ghost use Rattle.std.specs.List.{All, sum_by};
 ghost use Rattle.run_model.specs.Words.{times};
 ghost use Rattle.run_shared.specs.Receipts.{concatenated, receipt_numbers, StandsIn};
 ghost use Rattle.run_shared.specs.Closed.{IsLeft, IsLeftUnclosed, Refuses};
-ghost use Rattle.run_live.specs.Left.{HasToldSome};
+ghost use Rattle.run_laws.specs.Course.{turns_of};
+ghost use Rattle.run_live.specs.Left.{HasToldSome, HasTakenSome};
 ghost use Rattle.run_whole.specs.Whole.{IsThird};
 
 use crate::left::{CutOff, GivenUp};
@@ -117,6 +118,9 @@ pub(crate) fn close_run<L: Ledger, R: Reporter>(
     ensures no_outcome { IfOk result (λ r. IsSome r.1 → r.0.outcome ≡ None) }
     ensures told { IfOk result (λ r. HasToldSome R.told r.0.report) }
     ensures given_up { IfErr result (HasToldSome R.told) }
+    ensures turns { IfOk result (λ r. R.taken r.0.report (turns_of r.0.journal)) }
+    ensures some_turns { IfOk result (λ r. HasTakenSome R.taken r.0.report) }
+    ensures turns_given_up { IfErr result (HasTakenSome R.taken) }
 {
     match shared.close(alloc, shares, receipts) {
         Ok(closed) => Ok((ran_closed(closed), None)),
@@ -175,6 +179,8 @@ pub(crate) fn give_back<L: Ledger, R: Reporter>(
     requires { IfSome third IsThird }
     ensures told { HasToldSome R.told result.report }
     ensures left { IfSome result.cut_off (λ c. IsLeft R.told result.report c.asks shared c.journal None) }
+    ensures some_turns { HasTakenSome R.taken result.report }
+    ensures turns { IfSome result.cut_off (λ c. R.taken result.report (turns_of c.journal)) }
     ensures third { IfSome result.cut_off (λ c. IsThird c.refusal) }
 {
     match shared.close(alloc, Vec::new(alloc), List::new()) {

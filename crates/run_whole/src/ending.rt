@@ -5,7 +5,8 @@ ghost use Rattle.run_model.specs.Words.{times};
 ghost use Rattle.run_shared.specs.Receipts.{concatenated, receipt_numbers, StandsIn};
 ghost use Rattle.run_shared.specs.Closed.{IsLeft, IsLeftUnclosed, Refuses};
 ghost use Rattle.run_shared.specs.Orders.{Delivers, IsOrderFault};
-ghost use Rattle.run_live.specs.Left.{HasToldSome};
+ghost use Rattle.run_laws.specs.Course.{turns_of};
+ghost use Rattle.run_live.specs.Left.{HasToldSome, HasTakenSome};
 ghost use Rattle.run_whole.specs.Whole.{handed, order_fault, receipts_error};
 
 use crate::closing::{Ran, close_run, report_ran};
@@ -24,7 +25,8 @@ fn settle<W: Drop, T: Drop, O: Drop, S: Drop, R: Reporter>(
     run: Ran<R>,
     error: Option<CloseError>,
 ) -> Result<Whole<W, T, O, S, R>, GivenUp<R>>
-    requires { HasToldSome R.told run.report }
+    requires told { HasToldSome R.told run.report }
+    requires turns { HasTakenSome R.taken run.report }
     ensures same { IfOk result
         (λ w. (w.threads ≡ threads) × (w.run ≡ run) × (receipts_error w.error ≡ error)) }
     ensures delivers { IfOk result (λ w. IsNone w.error
@@ -33,6 +35,7 @@ fn settle<W: Drop, T: Drop, O: Drop, S: Drop, R: Reporter>(
         (IsOrderFault w.run.asks (handed w.threads.workers.orders w.threads.ear.halts))) }
     ensures fault_kind { IfOk result (λ w. IfSome (order_fault w.error) (λ f. f ≢ OrderFault.OutOfMemory)) }
     ensures given_up { IfErr result (λ g. HasToldSome R.told g.report) }
+    ensures turns_given_up { IfErr result (λ g. HasTakenSome R.taken g.report) }
     ensures not_cut_off { IfErr result (λ g. g.cut_off ≡ None) }
 {
     let orders = &threads.workers.orders;
@@ -81,7 +84,9 @@ pub(crate) fn finish<W: Drop, T: Drop, O: Drop, S: Drop, L: Ledger, R: Reporter>
     ensures left_too { IfOk result (λ w. IfSome (receipts_error w.error)
         (λ e. IsLeftUnclosed R.told w.run.report w.run.asks shared w.run.journal e.kind)) }
     ensures no_outcome { IfOk result (λ w. IsSome (receipts_error w.error) → w.run.outcome ≡ None) }
+    ensures turns { IfOk result (λ w. R.taken w.run.report (turns_of w.run.journal)) }
     ensures given_up { IfErr result (λ g. HasToldSome R.told g.report) }
+    ensures turns_given_up { IfErr result (λ g. HasTakenSome R.taken g.report) }
     ensures not_cut_off { IfErr result (λ g. g.cut_off ≡ None) }
 {
     match close_run(alloc, shared, shares, receipts) {

@@ -5,7 +5,8 @@ ghost use Rattle.run_model.specs.Words.{times};
 ghost use Rattle.run_shared.specs.Receipts.{concatenated, receipt_numbers, StandsIn};
 ghost use Rattle.run_shared.specs.Closed.{IsLeft, IsLeftUnclosed, Refuses};
 ghost use Rattle.run_shared.specs.Orders.{Delivers, IsOrderFault};
-ghost use Rattle.run_live.specs.Left.{HasToldSome};
+ghost use Rattle.run_laws.specs.Course.{turns_of};
+ghost use Rattle.run_live.specs.Left.{HasToldSome, HasTakenSome};
 ghost use Rattle.run_whole.specs.Own.{IsListenerWork, IsTickerWork, AreAllKept};
 ghost use Rattle.run_whole.specs.Whole.{IsThird, handed, order_fault, receipts_error};
 
@@ -76,6 +77,9 @@ where
     ensures cut_off { IfErr result (λ g. IfSome g.cut_off
         (λ c. IsLeft R.told g.report c.asks shared c.journal None)) }
     ensures third { IfErr result (λ g. IfSome g.cut_off (λ c. IsThird c.refusal)) }
+    ensures turns { IfOk result (λ w. R.taken w.run.report (turns_of w.run.journal)) }
+    ensures turns_given_up { IfErr result (λ g. HasTakenSome R.taken g.report) }
+    ensures turns_cut_off { IfErr result (λ g. IfSome g.cut_off (λ c. R.taken g.report (turns_of c.journal))) }
 {
     match run_shares(rt, alloc, &shared, host, shares, heeded) {
         Ok((threads, shares, receipts)) => finish(alloc, shared, threads, shares, receipts),
@@ -106,6 +110,7 @@ where
     requires quiet { O.has_come around.outside [] }
     requires runs { S.has_halted around.halter 0 }
     requires report { R.told report [] }
+    requires untaken { R.taken report [] }
     requires name { blank.name ≡ L.name }
     requires parts { blank.parts ≡ L.parts }
     requires all { blank.parts ≡ workers + 2 }
@@ -139,6 +144,9 @@ where
     ensures cut_off { IfErr result (λ g. IfSome g.cut_off
         (λ c. IsLeft R.told g.report c.asks runner c.journal None)) }
     ensures third { IfErr result (λ g. IfSome g.cut_off (λ c. IsThird c.refusal)) }
+    ensures turns { IfOk result (λ w. R.taken w.run.report (turns_of w.run.journal)) }
+    ensures turns_given_up { IfErr result (λ g. HasTakenSome R.taken g.report) }
+    ensures turns_cut_off { IfErr result (λ g. IfSome g.cut_off (λ c. R.taken g.report (turns_of c.journal))) }
 {
     let hearing = runner.settings().plan.hearing;
     let made = SharedRun::<L, R>::new(alloc, runner, report, u64::from(workers) + 2, blank);
@@ -181,6 +189,7 @@ where
     requires quiet { O.has_come around.outside [] }
     requires runs { S.has_halted around.halter 0 }
     requires report { R.told report [] }
+    requires untaken { R.taken report [] }
     ensures workers { IfOk result (λ w. length w.threads.workers.keepers.items ≡ workers) }
     ensures left { IfOk result (λ w. IsNone (receipts_error w.error)
         → IsLeft R.told w.run.report w.run.asks runner w.run.journal w.run.outcome) }
@@ -211,6 +220,9 @@ where
     ensures cut_off { IfErr result (λ g. IfSome g.cut_off
         (λ c. IsLeft R.told g.report c.asks runner c.journal None)) }
     ensures third { IfErr result (λ g. IfSome g.cut_off (λ c. IsThird c.refusal)) }
+    ensures turns { IfOk result (λ w. R.taken w.run.report (turns_of w.run.journal)) }
+    ensures turns_given_up { IfErr result (λ g. HasTakenSome R.taken g.report) }
+    ensures turns_cut_off { IfErr result (λ g. IfSome g.cut_off (λ c. R.taken g.report (turns_of c.journal))) }
 {
     let blank = Blank::new(u64::from(workers) + 2);
     whole_in::<H, O, S, Brand, R, X>(rt, alloc, runner, workers, host, around, report, blank)

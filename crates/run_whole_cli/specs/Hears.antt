@@ -1,14 +1,16 @@
 -- What who listens beside the lines of a run has heard.
-use Rattle.std.specs.Prelude.{ℕ, List, ◌++◌, Bool, true, false, Option, Some, None}
+use Rattle.std.specs.Prelude.{ℕ, ◌≡◌, ◌⊎◌, List, [], ◌++◌, Bool, true, false, Option, Some, None}
 use Rattle.std.specs.List.{filter_map}
-use Rattle.std.specs.Option.{IsNone}
+use Rattle.std.specs.Option.{IfSome, IsNone}
 use Rattle.run_events.specs.declared.settings.Settings.{Settings}
 use Rattle.run_events.specs.declared.ask.Ask.{Ask}
 use Rattle.run_events.specs.declared.events.ReporterEvent.{ReporterEvent}
+use Rattle.run_events.specs.declared.turn.Turn.{Turn}
 use Rattle.run_engine.specs.Heard.{IsFurther}
 use Rattle.run_model.specs.declared.entry.Entry.{Entry}
 use Rattle.run_model.specs.Words.{answers}
-use Rattle.run_model.specs.Journal.{past_of}
+use Rattle.run_model.specs.Journal.{past_of, IsLegal}
+use Rattle.run_laws.specs.Course.{turns_of}
 use Rattle.run_whole.specs.Whole.{receipts_error}
 use Rattle.run_cli.specs.Plans.{settings_for}
 use Rattle.run_whole_cli.specs.Ends.{HasStopped}
@@ -46,3 +48,23 @@ HasHeardLeft heard report p (lefts.CutOff c) = HasHeardPart heard report p c.jou
 abbrev pub HasHeardPlan : {B W T O S : Type 0} → (B → List ReporterEvent → Type 0) → B → List ℕ → WholeLeft W T O S
     → Type 0
 HasHeardPlan heard report line left = (x : HasPlan line) × HasHeardLeft heard report (settings_for x.keys x.plan) left
+
+-- the turns that a run took of which this is left
+abbrev pub turns_left : {W T O S : Type 0} → WholeLeft W T O S → List Turn
+turns_left (lefts.Run l) = turns_of l.journal
+turns_left (lefts.CutOff c) = turns_of c.journal
+
+-- no turns, or those of a legal journal
+abbrev pub AreLegal : List Turn → Type 0
+AreLegal turns =
+    (turns ≡ []) ⊎ ((p : Settings) × (journal : List Entry) × IsLegal p journal × (turns ≡ turns_of journal))
+
+-- who listens has heard that the run took these turns: those of its journal where one is left, else those of a legal
+-- journal, and none where no run was begun
+pub record HasHeardTurns {B W T O S : Type 0} (taken : B → List Turn → Type 0) (report : B)
+    (left : Option (WholeLeft W T O S)) (unbegun : Bool) : Type 0 where
+  pub turns : List Turn
+  pub heard : taken report turns
+  pub journal : IfSome left (λ l. turns ≡ turns_left l)
+  pub legal : AreLegal turns
+  pub none : unbegun ≡ true → turns ≡ []

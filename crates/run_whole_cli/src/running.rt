@@ -1,13 +1,14 @@
 // The run of a plan with all its lines, and with who listens beside them.
-ghost use Rattle.std.specs.Prelude.{◌≡◌, [], IfSome, None};
+ghost use Rattle.std.specs.Prelude.{◌≡◌, [], IfSome, None, false};
 ghost use Rattle.run_events.specs.declared.settings.Settings.{Settings};
+ghost use Rattle.run_laws.specs.Course.{turns_of};
 ghost use Rattle.run_shared.specs.Closed.{IsLeft};
-ghost use Rattle.run_live.specs.Left.{HasToldSome};
+ghost use Rattle.run_live.specs.Left.{HasToldSome, HasTakenSome};
 ghost use Rattle.run_whole.specs.Whole.{IsThird};
 ghost use Rattle.run_cli.specs.Call.{writing_of};
 ghost use Rattle.run_whole_cli.specs.Relations.{relations};
 ghost use Rattle.run_whole_cli.specs.Ends.{IsWholeRunEnd};
-ghost use Rattle.run_whole_cli.specs.Hears.{HasHeardLeft};
+ghost use Rattle.run_whole_cli.specs.Hears.{HasHeardLeft, HasHeardTurns};
 ghost use Rattle.run_whole_cli.specs.Last.{IsLeftWhole};
 
 use crate::left::{WholeEnded, WholeLeft, WholeRun, left_by};
@@ -38,6 +39,8 @@ fn finish<
     alloc: Global,
     whole: Whole<W, T, O, S, Both<TiedReporter<K, G>, B>>,
 ) -> (WholeEnded<K, WholeLeft<W, T, O, S>>, B)
+    requires turns { ⟦<Both<TiedReporter<K, G>, B> as Reporter>⟧.taken whole.run.report
+        (turns_of whole.run.journal) }
     ensures says { (p : Settings) → IsLeftWhole (relations W.has_heard T.has_told O.has_come S.has_halted)
         ⟦<Both<TiedReporter<K, G>, B> as Reporter>⟧.told p whole
         → IsWholeRunEnd (relations W.has_heard T.has_told O.has_come S.has_halted) p (record {
@@ -49,6 +52,9 @@ fn finish<
     ensures heard { (p : Settings) → IsLeftWhole (relations W.has_heard T.has_told O.has_come S.has_halted)
         ⟦<Both<TiedReporter<K, G>, B> as Reporter>⟧.told p whole
         → IfSome result.0.left (HasHeardLeft B.heard result.1 p) }
+    ensures turns { (p : Settings) → IsLeftWhole (relations W.has_heard T.has_told O.has_come S.has_halted)
+        ⟦<Both<TiedReporter<K, G>, B> as Reporter>⟧.told p whole
+        → HasHeardTurns B.taken result.1 result.0.left false }
 {
     let Whole {
         threads,
@@ -97,6 +103,9 @@ fn finish_given_up<
 ) -> (WholeEnded<K, WholeLeft<W, T, O, S>>, B)
     requires told { HasToldSome ⟦<Both<TiedReporter<K, G>, B> as Reporter>⟧.told given_up.report }
     requires third { IfSome given_up.cut_off (λ c. IsThird c.refusal) }
+    requires some_turns { HasTakenSome ⟦<Both<TiedReporter<K, G>, B> as Reporter>⟧.taken given_up.report }
+    requires turns { IfSome given_up.cut_off
+        (λ c. ⟦<Both<TiedReporter<K, G>, B> as Reporter>⟧.taken given_up.report (turns_of c.journal)) }
     ensures says { (p : Settings) → IfSome given_up.cut_off
         (λ c. IsLeft ⟦<Both<TiedReporter<K, G>, B> as Reporter>⟧.told given_up.report c.asks p c.journal None)
         → IsWholeRunEnd (relations W.has_heard T.has_told O.has_come S.has_halted) p (record {
@@ -108,6 +117,9 @@ fn finish_given_up<
     ensures heard { (p : Settings) → IfSome given_up.cut_off
         (λ c. IsLeft ⟦<Both<TiedReporter<K, G>, B> as Reporter>⟧.told given_up.report c.asks p c.journal None)
         → IfSome result.0.left (HasHeardLeft B.heard result.1 p) }
+    ensures turns { (p : Settings) → IfSome given_up.cut_off
+        (λ c. IsLeft ⟦<Both<TiedReporter<K, G>, B> as Reporter>⟧.told given_up.report c.asks p c.journal None)
+        → HasHeardTurns B.taken result.1 result.0.left false }
 {
     let GivenUp { report, cut_off } = given_up;
     let (lines, report) = report.into_parts();
@@ -139,11 +151,13 @@ fn run_at<
     requires quiet { O.has_come around.outside [] }
     requires runs { S.has_halted around.halter 0 }
     requires unheard { B.heard report [] }
+    requires untaken { B.taken report [] }
     requires taken { G.taken_before ≡ K.taken sink }
     requires faults { G.faults_before ≡ K.faults sink }
     ensures says { IsWholeRunEnd (relations H.Worker.has_heard H.Tick.has_told O.has_come S.has_halted) runner
         (writing_of K.Sink sink result.0.sink) result.0.left result.0.ending }
     ensures heard { IfSome result.0.left (HasHeardLeft B.heard result.1 runner) }
+    ensures turns { HasHeardTurns B.taken result.1 result.0.left false }
 {
     let workers = workers_of(&runner);
     let both = Both::new(TiedReporter::<K, G>::new(sink), report);
@@ -174,9 +188,11 @@ pub(crate) fn run_runner<
     requires quiet { O.has_come around.outside [] }
     requires runs { S.has_halted around.halter 0 }
     requires unheard { B.heard report [] }
+    requires untaken { B.taken report [] }
     ensures says { IsWholeRunEnd (relations H.Worker.has_heard H.Tick.has_told O.has_come S.has_halted) runner
         (writing_of K.Sink sink result.0.sink) result.0.left result.0.ending }
     ensures heard { IfSome result.0.left (HasHeardLeft B.heard result.1 runner) }
+    ensures turns { HasHeardTurns B.taken result.1 result.0.left false }
 {
     run_at::<K, B, H, O, S, Brand, X>(rt, alloc, runner, sink, report, host, around)
 }

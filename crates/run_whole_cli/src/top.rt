@@ -5,7 +5,7 @@ ghost use Rattle.run_cli.specs.Live.{is_unbegun};
 ghost use Rattle.run_whole_cli.specs.Relations.{relations};
 ghost use Rattle.run_whole_cli.specs.Ends.{whole_status};
 ghost use Rattle.run_whole_cli.specs.Answers.{IsWholeEnd, AnswersWhole};
-ghost use Rattle.run_whole_cli.specs.Hears.{HasHeardPlan};
+ghost use Rattle.run_whole_cli.specs.Hears.{HasHeardPlan, HasHeardTurns};
 
 use crate::left::{WholeEnded, WholeLeft};
 use crate::lines::end_without_run;
@@ -40,9 +40,11 @@ fn run_line<
     requires quiet { O.has_come around.outside [] }
     requires runs { S.has_halted around.halter 0 }
     requires unheard { B.heard report [] }
+    requires untaken { B.taken report [] }
     ensures says { IsWholeEnd (relations H.Worker.has_heard H.Tick.has_told O.has_come S.has_halted) line.now
         (writing_of K.Sink sink result.0.sink) result.0.left result.0.ending }
     ensures heard { IfSome result.0.left (HasHeardPlan B.heard result.1 line.now) }
+    ensures turns { HasHeardTurns B.taken result.1 result.0.left (is_unbegun (whole_status result.0.ending)) }
     ensures unused { is_unbegun (whole_status result.0.ending) ≡ true → host.new ≡ host.old }
 {
     match runner_in(alloc, line) {
@@ -61,7 +63,7 @@ fn run_line<
 /// of an outcome, each setup script and each test of the plan has its fate, and each signal and each stop that was
 /// asked was handed on exactly once. A third shutdown signal gives the run up, with status 7 unless it was over. Want
 /// of memory may come at any point, and is status 11. Who listens beside hears each event that the sink took, after it
-/// did, and is handed back.
+/// did, and each turn that the run took, and is handed back.
 pub fn run_plan<
     K: Sink + Send,
     B: Listener + Send,
@@ -81,9 +83,11 @@ pub fn run_plan<
     requires quiet { O.has_come around.outside [] }
     requires runs { S.has_halted around.halter 0 }
     requires unheard { B.heard report [] }
+    requires untaken { B.taken report [] }
     ensures says { AnswersWhole (relations H.Worker.has_heard H.Tick.has_told O.has_come S.has_halted) line.now
         (writing_of K.Sink sink result.0.sink) result.1 result.0.status }
     ensures heard { IfSome result.1 (HasHeardPlan B.heard result.2 line.now) }
+    ensures turns { HasHeardTurns B.taken result.2 result.1 (is_unbegun result.0.status) }
     // The host is asked for nothing before there is a plan that is accepted.
     ensures unused { is_unbegun result.0.status ≡ true → host.new ≡ host.old }
 {

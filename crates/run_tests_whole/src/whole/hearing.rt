@@ -29,7 +29,12 @@ impl Reporter for Hearing {
 
     ghost told = { λ h list. ⟦<EventLog as Reporter>⟧.told h.log list };
 
+    ghost use Rattle.std.specs.Prelude.{⊤};
+
     ghost faults = { λ h. ⟦<EventLog as Reporter>⟧.faults h.log };
+
+    // It counts turns, and keeps none.
+    ghost taken = { λ _ _. ⊤ };
 
     fn report(
         &mut self,

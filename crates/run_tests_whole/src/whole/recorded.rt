@@ -5,7 +5,7 @@ use crate::whole::gate::{Count, CountingHost, WaitingOutside};
 use crate::whole::given::{MEMORY, keepers, nothing};
 use crate::whole::rows::QUIET;
 use run_capture::{List, MemorySink};
-use run_events::ReporterEvent;
+use run_events::{ReporterEvent, Turn};
 use run_keep::{Halter, KeeperHost, MemoryHalter, Outside};
 use run_record::{RecordOutcome, Recorded, run_recorded};
 use run_report::Listener;
@@ -32,7 +32,12 @@ impl Listener for Heedless {
 
     ghost heard = { λ _ _. ⊤ };
 
+    // It doesn't keep turns.
+    ghost taken = { λ _ _. ⊤ };
+
     fn hear(&mut self, _alloc: Global, _event: &ReporterEvent) {}
+
+    fn hear_turn(&mut self, _alloc: Global, _turn: &Turn) {}
 }
 
 fn sink(rt: &impl Abort, alloc: Global) -> MemorySink {

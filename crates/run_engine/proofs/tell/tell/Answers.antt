@@ -43,6 +43,7 @@ loop-event-preserved g c =
       faults = subst (CountsErrors (g.R.Reporter.faults c.args.report.now)
           (g.R.Reporter.faults c.tell_marked.new.report)) (sym c.first_of-refusal.ensures)
           (counts_both _ _ _ c.loop-event.refusal error inv.faults c.in_ok-error.ensures.faults);
+      turns = λ ts had. c.tell_marked.ensures.turns ts (inv.turns ts had);
     }
 
 pub returns-in_err-error-clause-part : goal.returns-in_err-error-clause-part
@@ -52,3 +53,7 @@ returns-in_err-error-clause-part g c =
     c.tell_marked.new.report _ _ _ c.args.events.now
     c.loop-event.event-index c.loop-event.refused c.loop-event.refusal c.event-item.result c.loop-event-test.true
     inv.answered c.event-item.is inv.told inv.faults c.in_err-error.ensures.part)
+
+pub returns-in_err-error-clause-turns : goal.returns-in_err-error-clause-turns
+returns-in_err-error-clause-turns g c = λ ts had.
+    c.tell_marked.ensures.turns ts (c.loop-event.invariant.turns ts had)

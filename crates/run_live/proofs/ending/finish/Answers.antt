@@ -4,8 +4,8 @@ use Rattle.run_shared.specs.declared.shared.Receipt.{Receipt}
 use Rattle.run_model.specs.declared.entry.Entry.{Entry}
 use Rattle.run_model.specs.Words.{times}
 use Rattle.run_shared.specs.Receipts.{concatenated, receipt_numbers}
-use Rattle.run_live.specs.Left.{HasToldSome}
-use Rattle.run_live.proofs.LeftLemmas.{told_unclosed}
+use Rattle.run_live.specs.Left.{HasToldSome, HasTakenSome}
+use Rattle.run_live.proofs.LeftLemmas.{told_unclosed, taken_unclosed}
 use Rattle.run_live.proofs.ending.finish.Goals as goal
 
 pub returns-in-Ok-clause-once : goal.returns-in-Ok-clause-once
@@ -37,4 +37,12 @@ returns-in-Err-clause-given_up g c =
     let told = told_unclosed g.R.Reporter.told c.in-Err.unclosed.report c.in-Err.unclosed.asks c.args.shared
     c.in-Err.unclosed.journal c.in-Err.unclosed.error.kind c.in-Err.ensures.left_too in
     IfErr-weaker c.refused.result _ _ (λ report same. subst (HasToldSome g.R.Reporter.told) (sym same) told)
+    c.refused.ensures.given_up
+
+pub returns-in-Err-clause-turns_given_up : goal.returns-in-Err-clause-turns_given_up
+returns-in-Err-clause-turns_given_up g c =
+    let u = c.in-Err.unclosed in
+    let some = taken_unclosed g.R.Reporter.told g.R.Reporter.taken u.report u.asks c.args.shared u.journal u.error.kind
+    c.in-Err.ensures.left_too c.in-Err.ensures.turns_too in
+    IfErr-weaker c.refused.result _ _ (λ report same. subst (HasTakenSome g.R.Reporter.taken) (sym same) some)
     c.refused.ensures.given_up

@@ -1,18 +1,27 @@
 use Rattle.run_record.proofs.HeardLemmas.{part_heard}
 use Rattle.run_record.proofs.top.run_at.Goals as goal
 
-pub new-requires : goal.new-requires
-new-requires g c = rw c.requires.taken (rw c.requires.faults (rw c.requires.plan c.begin.ensures))
+pub run_plan-own-requires-clause-untaken : goal.run_plan-own-requires-clause-untaken
+run_plan-own-requires-clause-untaken g c = λ _ _.
+    rw (c.new.ensures.begun, c.new.ensures.given_up, c.requires.taken, c.requires.faults, c.requires.plan)
+    c.begin.ensures
+
+pub finish-outcome-requires : goal.finish-outcome-requires
+finish-outcome-requires g c =
+    let turns = c.run_plan-own.ensures.turns in
+    record { underway = (turns.turns, turns.heard) }
 
 pub returns-clause-says : goal.returns-clause-says
 returns-clause-says g c =
-    let ended = rw c.requires.taken at (rw c.requires.faults at (rw c.requires.plan at
-    (rw c.is_over.ensures at c.end_record-outcome.ensures))) in
+    let turns = c.run_plan-own.ensures.turns in
     record {
       ran = c.run_plan-own.ensures.says;
-      turns = ended.0;
-      journal = ended.1;
-      kept = ended.2;
+      turns = turns.turns;
+      journal = turns.journal;
+      legal = turns.legal;
+      none = turns.none;
+      kept = rw c.requires.taken at (rw c.requires.faults at (rw c.requires.plan at
+          (rw c.is_over.ensures at (c.finish-outcome.ensures turns.turns turns.heard))));
       status_is = c.status.ensures;
     }
 

@@ -1,7 +1,7 @@
 use Rattle.std.proofs.Common.{sym, subst, length, IfOk, ◌+◌}
 use Rattle.run_events.specs.declared.settings.Settings.{Settings}
-use Rattle.run_live.specs.Left.{HasToldSome}
-use Rattle.run_live.proofs.LeftLemmas.{told_nothing}
+use Rattle.run_live.specs.Left.{HasToldSome, HasTakenSome}
+use Rattle.run_live.proofs.LeftLemmas.{told_nothing, taken_nothing}
 use Rattle.run_whole.specs.Own.{IsListenerWork}
 use Rattle.run_whole.proofs.running.whole_in.Goals as goal
 
@@ -15,3 +15,8 @@ pub returns-in-Err-clause-given_up : goal.returns-in-Err-clause-given_up
 returns-in-Err-clause-given_up g c =
     subst (HasToldSome g.R.Reporter.told) (sym c.in-Err.ensures.err)
     (told_nothing g.R.Reporter.told c.args.report c.args.runner c.requires.report)
+
+pub returns-in-Err-clause-turns_given_up : goal.returns-in-Err-clause-turns_given_up
+returns-in-Err-clause-turns_given_up g c =
+    subst (HasTakenSome g.R.Reporter.taken) (sym c.in-Err.ensures.err)
+    (taken_nothing g.R.Reporter.taken c.args.report c.args.runner c.requires.untaken)

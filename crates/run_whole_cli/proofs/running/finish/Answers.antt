@@ -4,7 +4,7 @@ use Rattle.run_cli.specs.Call.{Writing, writing_of}
 use Rattle.run_whole_cli.specs.Relations.{relations}
 use Rattle.run_whole_cli.specs.Last.{EndsWhole}
 use Rattle.run_whole_cli.proofs.EndLemmas.{whole_ends}
-use Rattle.run_whole_cli.proofs.HearsLemmas.{heard_whole}
+use Rattle.run_whole_cli.proofs.HearsLemmas.{heard_whole, turns_whole}
 use Rattle.run_whole_cli.proofs.running.finish.Goals as goal
 
 pub returns-clause-says : goal.returns-clause-says
@@ -34,3 +34,10 @@ returns-clause-heard g c = λ p x.
     rw c.left_by.ensures (rw c.into_parts-lines.ensures.report
     (heard_whole k _ g.B.Listener.heard all.run.report.report p all c.write_end-ending.result.0
     (λ ys told. told.report_heard) x))
+
+pub returns-clause-turns : goal.returns-clause-turns
+returns-clause-turns g c = λ p x.
+    let all = c.args.whole in
+    let k = relations g.W.Keeper.has_heard g.T.Ticker.has_told g.O.Outside.has_come g.S.Halter.has_halted in
+    rw c.left_by.ensures (rw c.into_parts-lines.ensures.report
+    (turns_whole k _ g.B.Listener.taken all.run.report.report p all c.write_end-ending.result.0 c.requires.turns.1 x))

@@ -3,7 +3,7 @@ use Rattle.run_cli.specs.Call.{Writing, then_writing, writing_of}
 use Rattle.run_cli.proofs.GivenUpLemmas.{given_up}
 use Rattle.run_whole_cli.specs.Relations.{relations}
 use Rattle.run_whole_cli.specs.Ends.{IsWholeRunEnd}
-use Rattle.run_whole_cli.proofs.HearsLemmas.{heard_cut}
+use Rattle.run_whole_cli.proofs.HearsLemmas.{heard_cut, turns_cut, turns_given_up}
 use Rattle.run_whole_cli.proofs.ThirdLemmas.{third_ends}
 use Rattle.run_whole_cli.proofs.running.finish_given_up.Goals as goal
 
@@ -52,3 +52,22 @@ returns-in-Some-clause-heard g c = λ p left.
 
 pub returns-in-None-clause-heard : goal.returns-in-None-clause-heard
 returns-in-None-clause-heard g c = λ p left. rw c.end_given_up.ensures.left tt
+
+pub returns-in-Some-clause-turns : goal.returns-in-Some-clause-turns
+returns-in-Some-clause-turns g c = λ p left.
+    let end = c.end_cut_off in
+    let both = c.args.given_up.report in
+    let some = c.requires.some_turns in
+    rw c.into_parts-lines.ensures.report
+    (turns_cut _ g.B.Listener.taken both both.report p c.in-Some.cut_off end.result.ending end.result.left
+    end.ensures.left (rw c.in-Some.is at c.requires.turns).1
+    (record { settings = some.settings; journal = some.journal; legal = some.legal; turns = some.turns.1 })
+    (rw c.in-Some.is at left))
+
+pub returns-in-None-clause-turns : goal.returns-in-None-clause-turns
+returns-in-None-clause-turns g c = λ p left.
+    let some = c.requires.some_turns in
+    rw c.into_parts-lines.ensures.report
+    (turns_given_up g.B.Listener.taken c.args.given_up.report.report c.end_given_up.result.left
+    c.end_given_up.ensures.left
+    (record { settings = some.settings; journal = some.journal; legal = some.legal; turns = some.turns.1 }))

@@ -3,6 +3,7 @@ use Rattle.run_cli.specs.Call.{writing_of}
 use Rattle.run_cli.specs.Live.{is_unbegun}
 use Rattle.run_whole_cli.specs.Relations.{relations}
 use Rattle.run_whole_cli.specs.Answers.{AnswersWhole}
+use Rattle.run_whole_cli.specs.Hears.{HasHeardTurns}
 use Rattle.run_whole_cli.proofs.AnswerLemmas.{answers_whole}
 use Rattle.run_whole_cli.proofs.top.run_plan.Goals as goal
 
@@ -18,3 +19,9 @@ returns-clause-says g c =
 pub returns-clause-unused : goal.returns-clause-unused
 returns-clause-unused g c = λ unbegun.
     c.run_line-ended.ensures.unused (ap is_unbegun (sym c.status.ensures) ∙ unbegun)
+
+pub returns-clause-turns : goal.returns-clause-turns
+returns-clause-turns g c =
+    let end = c.run_line-ended in
+    subst (λ status. HasHeardTurns g.B.Listener.taken end.result.1 end.result.0.left (is_unbegun status))
+    (sym c.status.ensures) end.ensures.turns

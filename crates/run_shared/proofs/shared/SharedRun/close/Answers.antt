@@ -3,8 +3,11 @@ use Rattle.std.proofs.lemmas.Result.{IfOk-weaker, IfErr-weaker}
 use Rattle.run_engine.specs.World.{World}
 use Rattle.run_shared.proofs.shared.SharedRun.close.Goals as goal
 
-pub leave-requires : goal.leave-requires
-leave-requires g c = record { heard = rw (sym c.into_parts-run.ensures.run) at c.into_parts-run.ensures.heard }
+pub leave-requires-clause-heard : goal.leave-requires-clause-heard
+leave-requires-clause-heard g c = rw (sym c.into_parts-run.ensures.run) at c.into_parts-run.ensures.heard
+
+pub leave-requires-clause-turns : goal.leave-requires-clause-turns
+leave-requires-clause-turns g c = rw (sym c.into_parts-run.ensures.run) at c.into_parts-run.ensures.turns
 
 pub returns-clause-refused : goal.returns-clause-refused
 returns-clause-refused g c = rw c.self.view_is at c.leave.ensures.refused
