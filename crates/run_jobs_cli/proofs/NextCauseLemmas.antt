@@ -102,11 +102,11 @@ next_shows batch lists w status (Err fault) (inr (e, comes, unlike, is)) ends = 
 
 -- ---- what lists come to gives the status
 
-line_gets : (w : Writing) (line : List ℕ) (wanted status : ℕ) → EndsAtLine w line wanted status → ¬ HasWriteFault w
+calm_line : (w : Writing) (line : List ℕ) (wanted status : ℕ) → EndsAtLine w line wanted status → ¬ HasWriteFault w
     → Gets status wanted
-line_gets w line wanted status (inl (is, took, calm)) quiet = inl is
-line_gets w line wanted status (inr (inl (is, front, le, rose))) quiet = absurd (quiet rose)
-line_gets w line wanted status (inr (inr (is, short))) quiet = inr is
+calm_line w line wanted status (inl (is, took, calm)) quiet = inl is
+calm_line w line wanted status (inr (inl (is, front, le, rose))) quiet = absurd (quiet rose)
+calm_line w line wanted status (inr (inr (is, short))) quiet = inr is
 
 due_status : (batch : Batch) (lists : List (List Turn)) (waves : List Wave) → HaveRun batch lists waves
     → length waves ≡ length lists → is_next_due batch waves ≡ true
@@ -153,10 +153,10 @@ next_comes : (batch : Batch) (lists : List (List Turn)) (w : Writing) (status : 
     → ¬ HasWriteFault w → GetsNext batch lists status
 next_comes batch lists w status (Ok (line, n)) (waves, ran, count, inl (due, says, is)) ends quiet answer comes =
     subst (Gets status) (is ∙ due_status batch lists waves ran count due answer comes)
-    (line_gets w line n status ends quiet)
+    (calm_line w line n status ends quiet)
 next_comes batch lists w status (Ok (line, n)) (waves, ran, count, inr (none, text, is)) ends quiet answer comes =
     subst (Gets status) (is ∙ none_status batch lists waves ran count none answer comes)
-    (line_gets w line n status ends quiet)
+    (calm_line w line n status ends quiet)
 next_comes batch lists w status (Err fault) (inl is) ends quiet answer comes =
     inr (same_eleven status (subst (λ f. Gets status (jobs_fault_status f)) is (fault_gets w fault status ends)))
 next_comes batch lists w status (Err fault) (inr (e, stops, unlike, is)) ends quiet answer comes =

@@ -123,6 +123,17 @@ fn outside(rt: &impl Abort, alloc: Global, act: &Act, count: Count) -> WaitingOu
     }
 }
 
+// Who starts the children.
+fn host<X: Abort + Clock + Copy + Send + Drop>(
+    rt: X,
+    alloc: Global,
+    act: &Act,
+    count: &Count,
+) -> CountingHost<X> {
+    let keepers = keepers(&rt, alloc, act, count);
+    CountingHost { clock: rt, keepers }
+}
+
 // Whether a run with its keepers, what comes from outside and who stops the program is as its row says.
 fn holds<X: Abort + Threads + Wait + Sync + Clock + Copy + Send + Drop>(
     rt: X,
@@ -131,8 +142,7 @@ fn holds<X: Abort + Threads + Wait + Sync + Clock + Copy + Send + Drop>(
 ) -> bool {
     let act = &row.act;
     let count = nothing(&rt, alloc);
-    let keepers = keepers(&rt, alloc, act, &count);
-    let mut host = CountingHost { clock: rt, keepers };
+    let mut host = host(rt, alloc, act, &count);
     let outside = outside(&rt, alloc, act, count);
     let halter = MemoryHalter::new();
     let around = Around { outside, halter };
