@@ -3,20 +3,30 @@
 //! and of some what standard error is to say. One store is also played with each of its front parts and with each of
 //! its bytes changed, and of a longer one the fronts at the ends of its records. Each byte and each status is compared,
 //! and how many stores of a chain are opened and given back. A line is printed for each row; where a row differs, what
-//! was written follows.
+//! was written follows. Reports and JUnit files, and filters, profiles and plans of a project have rows of their own.
 #![tactic(auto)]
 
 mod answer;
 mod damaged;
+mod filters;
 mod host;
+mod junit;
 mod lines;
+mod made;
+mod plans;
+mod profiles;
 mod programs;
+mod projects;
+mod reports;
 mod reruns;
+mod settings;
 mod table;
 
 use answer::{Answer, input_of, words_of};
 use damaged::{changes, cuts, fronts};
 use programs::Program;
+use projects::projects_unmet;
+use reports::reports_unmet;
 use reruns::{Rerun, rerun_answer, rerun_of};
 use std::fs::Files;
 use std::io::Write;
@@ -189,6 +199,11 @@ fn main(rt: HostRuntime) -> io::Result<ExitCode> {
         println!(rt; "{count} rows of {name} differ")?;
         are_met = are_met && count == 0;
     }
+    let reports = reports_unmet(&rt)?;
+    println!(rt; "{reports} rows of reports differ")?;
+    let (filters, profiles, plans) = projects_unmet(&rt)?;
+    println!(rt; "{filters} rows of filters differ, {profiles} of profiles and {plans} of plans")?;
+    are_met = are_met && reports == 0 && filters == 0 && profiles == 0 && plans == 0;
     Ok(if are_met {
         ExitCode::SUCCESS
     } else {

@@ -1,18 +1,10 @@
-//! Worked rows of filters, of profiles and of plans. `data/` has the tests that filters are asked of, and tables of
-//! rows: filters with the tests that each holds of or the place of its fault; the files of projects with what a profile
-//! gives a test or the path of its fault; and files and words with the plan line that they make of a list, or the
-//! status. What differs is printed.
-#![tactic(auto)]
-
-mod filters;
-mod plans;
-mod profiles;
-
-use filters::filter_row;
-use plans::plan_row;
-use profiles::profile_row;
+// Rows of filters, of profiles and of plans: filters with the tests that each holds of or the place of its fault; the
+// files of projects with what a profile gives a test or the path of its fault; and files and words with the plan line
+// that they make of a list, or the status. What differs is printed.
+use crate::filters::filter_row;
+use crate::plans::plan_row;
+use crate::profiles::profile_row;
 use std::fs::Files;
-use std::process::ExitCode;
 use std::{fs, io};
 
 // Prints what a row gives where it isn't what is wanted, and says whether it is.
@@ -111,14 +103,12 @@ fn plans_unmet<X: AllocGlobal + Files + Print + Copy>(rt: &X) -> io::Result<u64>
     plans_in(rt, rows.as_str(), list.as_str())
 }
 
-fn main(rt: HostRuntime) -> io::Result<ExitCode> {
-    let filters = filters_unmet(&rt)?;
-    let profiles = profiles_unmet(&rt)?;
-    let plans = plans_unmet(&rt)?;
-    println!(rt; "{filters} rows of filters differ, {profiles} of profiles and {plans} of plans")?;
-    Ok(if filters == 0 && profiles == 0 && plans == 0 {
-        ExitCode::SUCCESS
-    } else {
-        ExitCode::FAILURE
-    })
+/// How many rows of filters, of profiles and of plans differ.
+pub fn projects_unmet<X: AllocGlobal + Files + Print + Copy>(
+    rt: &X,
+) -> io::Result<(u64, u64, u64)> {
+    let filters = filters_unmet(rt)?;
+    let profiles = profiles_unmet(rt)?;
+    let plans = plans_unmet(rt)?;
+    Ok((filters, profiles, plans))
 }

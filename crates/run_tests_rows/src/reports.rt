@@ -1,18 +1,9 @@
-//! Worked rows: whole inputs of which a report is made in memory, in five settings. The folder `data/` has the names of
-//! the rows, their inputs, and of each the whole text in each of the settings. Each byte is compared, and a line is
-//! printed for each row; where a row differs, what was written follows. Each run is made once more with a sink that
-//! fails, which changes nothing of the run. Lines with their JUnit file are rows too.
-#![tactic(auto)]
-
-mod junit;
-mod made;
-mod settings;
-
-use junit::junit_of;
-use made::{Made, report_of, shown_of};
+// Rows of reports: inputs of which a report is made in memory, in five settings, each once more with a sink that fails,
+// which changes nothing of the run; what is shown of their lines; and lines with their JUnit file.
+use crate::junit::junit_of;
+use crate::made::{Made, report_of, shown_of};
 use std::fs::Files;
 use std::io::Write;
-use std::process::ExitCode;
 use std::{fs, io};
 
 // What is to be shown of the lines of a row whose report is this.
@@ -125,24 +116,20 @@ fn is_junit<X: AllocGlobal + Files + Print + Copy>(rt: &X, name: &str) -> io::Re
     Ok(false)
 }
 
-fn main(rt: HostRuntime) -> io::Result<ExitCode> {
-    let names = fs::read_to_string(&rt, "rows.txt")?;
+/// How many rows of reports and of JUnit files aren't met. Prints each.
+pub fn reports_unmet<X: AllocGlobal + Files + Print + Copy>(rt: &X) -> io::Result<u64> {
     let mut unmet = 0u64;
+    let names = fs::read_to_string(rt, "reports.txt")?;
     for name in names.lines() {
-        if !is_met(&rt, name)? {
+        if !is_met(rt, name)? {
             unmet = unmet.saturating_add(1);
         }
     }
-    let names = fs::read_to_string(&rt, "junit.txt")?;
+    let names = fs::read_to_string(rt, "junit.txt")?;
     for name in names.lines() {
-        if !is_junit(&rt, name)? {
+        if !is_junit(rt, name)? {
             unmet = unmet.saturating_add(1);
         }
     }
-    println!(rt; "{unmet} rows differ")?;
-    Ok(if unmet == 0 {
-        ExitCode::SUCCESS
-    } else {
-        ExitCode::FAILURE
-    })
+    Ok(unmet)
 }
