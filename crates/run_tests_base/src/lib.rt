@@ -1,6 +1,6 @@
-//! Tests of the lowest layers, of the lines of output and of live progress, through their public calls: worked rows,
-//! texts as they print, each call that takes memory once with ample memory, and reads and writes that fail in
-//! mid-stream. Where memory is wanting a test ends at once, so that no helper has a second way out: each value that
+//! Tests of the lowest layers, of the lines of output, of live progress and of stress runs, through their public calls:
+//! worked rows, texts as they print, each call that takes memory once with ample memory, and reads and writes that fail
+//! in mid-stream. Where memory is wanting a test ends at once, so that no helper has a second way out: each value that
 //! lives across one makes the proof of a test dear. A helper asserts the answer of a small one, and names the row.
 #![tactic(auto)]
 
@@ -26,3 +26,5 @@ mod progress_events;
 mod rows;
 #[cfg(test)]
 mod runners;
+#[cfg(test)]
+mod stress;

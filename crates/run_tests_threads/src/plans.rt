@@ -2,7 +2,7 @@
 ghost use Rattle.std.specs.Prelude.{◌≡◌, ◌+◌, ◌<◌, ◌^◌, length};
 ghost use Rattle.std.specs.List.{All};
 
-use run_capture::{Boxed, CaptureStrategy, List, Text};
+use run_capture::{CaptureStrategy, List, Text};
 use run_engine::{TestRunner, TestRunnerBuilder};
 use run_events::{Plan, PlanTest, TestInstanceId, TestThreads};
 use std::alloc::Global;
@@ -17,23 +17,9 @@ pub fn text(rt: &impl Abort, alloc: Global, text: &str) -> Text {
     Text::from_str(alloc, text).expect(rt, MEMORY)
 }
 
-/// A value in memory of its own.
-pub fn boxed<T: Drop>(rt: &impl Abort, alloc: Global, value: T) -> Boxed<T> {
-    Boxed::new(alloc, value).expect(rt, MEMORY)
-}
-
 /// Adds an item at the end of a list.
 pub fn push<T: Drop>(rt: &impl Abort, alloc: Global, list: &mut List<T>, item: T) {
     list.push(alloc, item).expect(rt, MEMORY);
-}
-
-/// Texts.
-pub fn texts(rt: &impl Abort, alloc: Global, words: &[&str]) -> List<Text> {
-    let mut texts = List::new();
-    for word in words {
-        push(rt, alloc, &mut texts, text(rt, alloc, word));
-    }
-    texts
 }
 
 // The test of this number.
@@ -43,7 +29,9 @@ fn test(rt: &impl Abort, alloc: Global, number: u32) -> PlanTest {
         binary: text(rt, alloc, "b"),
         name: text(rt, alloc, name.as_str()),
     };
-    PlanTest::usual(id, texts(rt, alloc, &["true"]), None)
+    let mut command = List::new();
+    push(rt, alloc, &mut command, text(rt, alloc, "true"));
+    PlanTest::usual(id, command, None)
 }
 
 fn tests(rt: &impl Abort, alloc: Global, count: u32) -> List<PlanTest>
@@ -66,14 +54,6 @@ pub fn plan(rt: &impl Abort, alloc: Global, count: u32) -> Plan
     Plan::usual(alloc, Uuid::nil(), tests).expect(rt, MEMORY)
 }
 
-/// A builder of runners on so many threads.
-pub fn builder(capture: CaptureStrategy, threads: u32) -> TestRunnerBuilder {
-    let mut builder = TestRunnerBuilder::default();
-    builder.set_capture_strategy(capture);
-    builder.set_test_threads(TestThreads::Count(threads));
-    builder
-}
-
 /// A runner of so many tests on so many threads.
 pub fn runner(
     rt: &impl Abort,
@@ -83,9 +63,10 @@ pub fn runner(
     count: u32,
 ) -> TestRunner {
     let plan = plan(rt, alloc, count);
-    builder(capture, threads)
-        .build(alloc, plan)
-        .expect(rt, MEMORY)
+    let mut builder = TestRunnerBuilder::default();
+    builder.set_capture_strategy(capture);
+    builder.set_test_threads(TestThreads::Count(threads));
+    builder.build(alloc, plan).expect(rt, MEMORY)
 }
 
 /// The last share.

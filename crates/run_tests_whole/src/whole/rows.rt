@@ -140,13 +140,24 @@ fn holds<X: Abort + Threads + Wait + Sync + Clock + Copy + Send + Drop>(
     alloc: Global,
     row: &Row,
 ) -> bool {
-    let act = &row.act;
     let count = nothing(&rt, alloc);
-    let mut host = host(rt, alloc, act, &count);
-    let outside = outside(&rt, alloc, act, count);
+    let host = host(rt, alloc, &row.act, &count);
+    let outside = outside(&rt, alloc, &row.act, count);
+    holds_on(rt, alloc, host, outside, row)
+}
+
+// The same, on a host and with what comes from outside.
+fn holds_on<X: Abort + Threads + Wait + Sync + Clock + Copy + Send + Drop>(
+    rt: X,
+    alloc: Global,
+    host: CountingHost<X>,
+    outside: WaitingOutside,
+    row: &Row,
+) -> bool {
+    let mut host = host;
     let halter = MemoryHalter::new();
     let around = Around { outside, halter };
-    let runner = runner(&rt, alloc, act);
+    let runner = runner(&rt, alloc, &row.act);
     let ended = whole(&rt, alloc, runner, 1, &mut host, around, Hearing::new());
     said_of(
         ended,

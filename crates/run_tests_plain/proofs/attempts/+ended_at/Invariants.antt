@@ -1,5 +1,0 @@
-use Rattle.std.proofs.Common.{length}
-use Rattle.run_tests_plain.proofs.attempts.+ended_at.Given as goal
-
-abbrev pub decreases-ended_at : goal.decreases-ended_at
-decreases-ended_at l = length l.piece.now

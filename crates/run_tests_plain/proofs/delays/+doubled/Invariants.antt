@@ -1,4 +1,0 @@
-use Rattle.run_tests_plain.proofs.delays.+doubled.Given as goal
-
-abbrev pub decreases-doubled : goal.decreases-doubled
-decreases-doubled l = l.times

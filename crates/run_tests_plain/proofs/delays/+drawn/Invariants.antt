@@ -1,5 +1,0 @@
-use Rattle.std.proofs.Common.{length}
-use Rattle.run_tests_plain.proofs.delays.+drawn.Given as goal
-
-abbrev pub decreases-drawn : goal.decreases-drawn
-decreases-drawn l = length l.after.now

@@ -1,5 +1,0 @@
-use Rattle.std.proofs.Common.{length}
-use Rattle.run_tests_plain.proofs.outcomes.+refusal_of.Given as goal
-
-abbrev pub decreases-refusal_of : goal.decreases-refusal_of
-decreases-refusal_of l = length l.piece.now

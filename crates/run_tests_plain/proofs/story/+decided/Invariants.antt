@@ -1,5 +1,0 @@
-use Rattle.std.proofs.Common.{length}
-use Rattle.run_tests_plain.proofs.story.+decided.Given as goal
-
-abbrev pub decreases-decided : goal.decreases-decided
-decreases-decided l = length l.story.now
