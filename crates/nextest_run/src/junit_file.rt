@@ -4,6 +4,7 @@ ghost use Rattle.std.specs.Prelude.{[], IfSome};
 use run_cli::StdSink;
 use run_events::ReportFault;
 use run_junit::JUnitReport;
+use run_record::is_over;
 use run_report::Listener;
 use std::fs::File;
 use std::time::SystemTime;
@@ -72,11 +73,6 @@ fn say_lack(rt: &HostRuntime, name: &str, lack: &Lack) {
     };
 }
 
-// Whether a run with this status is over.
-fn is_over(status: u8) -> bool {
-    matches!(status, 0 | 4 | 9 | 100 | 105)
-}
-
 // Writes the file of a run that is over, and answers whether that went well.
 fn write_file(rt: &HostRuntime, name: &str, junit: &JUnitReport) -> bool {
     let Ok(beside) = format!(in rt.alloc(); "{name}.tmp") else {
@@ -93,8 +89,8 @@ fn write_file(rt: &HostRuntime, name: &str, junit: &JUnitReport) -> bool {
     }
 }
 
-/// Writes the file of a run that is over, if one is asked for, and answers the status of both: 9 where there is no such
-/// file.
+/// Writes the file of a run that is over, if one is asked for, and answers the run's status, or 9 where the file could
+/// not be written.
 pub fn end_junit(
     rt: &HostRuntime,
     name: Option<&str>,

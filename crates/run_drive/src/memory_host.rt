@@ -19,6 +19,7 @@ pub struct MemoryTicker {
 }
 
 impl MemoryTicker {
+    /// A ticker of these steps, in nanoseconds.
     pub fn new(steps: List<u64>) -> Self
         ensures steps { result.steps ≡ steps }
         ensures at { result.at ≡ 0 }
@@ -61,6 +62,7 @@ pub struct MemoryHost {
 }
 
 impl MemoryHost {
+    /// A host of these spawners, in order, this ticker and this word.
     pub fn new(
         alloc: Global,
         spawners: List<MemorySpawner>,

@@ -18,6 +18,7 @@ pub struct MemoryKeeperHost {
 }
 
 impl MemoryKeeperHost {
+    /// A host of these children for its keepers, these steps in nanoseconds, and this word.
     pub fn new(alloc: Global, children: List<List<Child>>, steps: List<u64>, word: u32) -> Self {
         MemoryKeeperHost {
             children: children.into_vec(alloc).into_iter(),

@@ -73,6 +73,7 @@ pub struct MemoryHalter {
 }
 
 impl MemoryHalter {
+    /// One that stopped nothing.
     pub fn new() -> Self
         ensures { result.halts ≡ 0 }
     {

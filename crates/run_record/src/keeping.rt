@@ -1,5 +1,5 @@
 // The record of a run in the making.
-ghost use Rattle.std.specs.Prelude.{◌≡◌, ◌∷◌, ◌++◌, [], ℕ, List, Option, None};
+ghost use Rattle.std.specs.Prelude.{◌≡◌, ◌∷◌, ◌++◌, [], ⊤, ℕ, List, Option, None};
 ghost use Rattle.run_events.specs.declared.turn.Turn.{Turn as TurnValue};
 ghost use Rattle.run_record.specs.Kept.{IsUnderway, writing_since};
 ghost use Rattle.run_record.specs.Recorded.{IsRunRecord};
@@ -12,8 +12,8 @@ use run_report::Listener;
 use std::alloc::Global;
 use std::marker::{Brand, PhantomData};
 
-/// Where the sink of a record stood, and the plan line: for clauses alone. Code that is generic in it is called at
-/// `Brand`, where the call's proof picks all three.
+/// Where the sink of a record stood, the plan line, and what is said of who listens beside it: for clauses alone. Code
+/// that is generic in it is called at `Brand`, where the call's proof picks all four.
 pub(crate) trait RecordOrigin {
     /// The bytes that the sink had taken, where it tells them.
     ghost taken_before: { Option (List ℕ) };
@@ -23,6 +23,9 @@ pub(crate) trait RecordOrigin {
 
     /// The plan line.
     ghost plan_line: { List ℕ };
+
+    /// That who listens beside the record had heard no turn when the run began.
+    ghost unheard: { Type 0 };
 }
 
 impl RecordOrigin for Brand {
@@ -31,6 +34,8 @@ impl RecordOrigin for Brand {
     ghost faults_before = { 0 };
 
     ghost plan_line = { [] };
+
+    ghost unheard = { ⊤ };
 }
 
 // A record in the making: its store takes each turn as it is told of it, until it is given up.
@@ -99,9 +104,9 @@ impl<B: Listener, F: Sink, G: RecordOrigin> Listener for Recording<B, F, G> {
 
     ghost heard = { λ r events. B.heard r.report events };
 
-    // What the record has. Of what else listens no clause says that it hears turns.
+    // What the record has, and what the listener beside it has heard.
     ghost taken = { λ r turns. IsUnderway F.Sink G.taken_before G.faults_before G.plan_line r.keeping.begun turns
-        r.keeping.given_up };
+        r.keeping.given_up × (G.unheard → B.taken r.report turns) };
 
     fn hear(&mut self, alloc: Global, event: &ReporterEvent) {
         self.report.hear(alloc, event);

@@ -7,5 +7,5 @@ mod keeping;
 mod outcome;
 mod top;
 
-pub use outcome::RecordOutcome;
+pub use outcome::{RecordOutcome, is_over};
 pub use top::{Recorded, run_recorded};

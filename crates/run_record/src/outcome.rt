@@ -18,7 +18,7 @@ pub enum RecordOutcome {
 }
 
 /// Whether a run with this status is over: it has an outcome, or an event of it was refused.
-pub(crate) fn is_over(status: u8) -> bool
+pub fn is_over(status: u8) -> bool
     ensures { result ≡ is_over_status status }
 {
     matches!(status, 0 | 4 | 9 | 100 | 105)

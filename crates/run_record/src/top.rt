@@ -2,7 +2,7 @@
 ghost use Rattle.std.specs.Prelude.{◌≡◌, [], IfSome, true};
 ghost use Rattle.run_cli.specs.Call.{writing_of};
 ghost use Rattle.run_cli.specs.Live.{is_unbegun};
-ghost use Rattle.run_whole_cli.specs.Hears.{HasHeardPlan};
+ghost use Rattle.run_whole_cli.specs.Hears.{HasHeardPlan, HasHeardTurns};
 ghost use Rattle.run_whole_cli.specs.Relations.{relations};
 ghost use Rattle.run_record.specs.Answers.{AnswersRecorded};
 
@@ -56,10 +56,12 @@ fn run_at<
     requires taken { G.taken_before ≡ F.taken store }
     requires faults { G.faults_before ≡ F.faults store }
     requires plan { G.plan_line ≡ line.now }
+    requires turns { (G.unheard → B.taken report []) × (B.taken report [] → G.unheard) }
     ensures says { AnswersRecorded (relations H.Worker.has_heard H.Tick.has_told O.has_come S.has_halted) line.now
         (writing_of K.Sink sink result.ran.sink) (writing_of F.Sink store result.store) result.left
         result.own result.outcome result.ran.status }
     ensures heard { IfSome result.left (HasHeardPlan B.heard result.report line.now) }
+    ensures turns { B.taken report [] → HasHeardTurns B.taken result.report result.left (is_unbegun result.own) }
     ensures unused { is_unbegun result.own ≡ true → host.new ≡ host.old }
 {
     let recording = Recording {
@@ -90,7 +92,7 @@ fn run_at<
 /// sink has at any moment is read back up to there. What each status says stands in `AnswersRecorded`: a run with an
 /// outcome that could not be recorded ends with 9 where the second sink failed, with 12 where a turn's line is longer
 /// than 16,777,216 bytes, and with 11 where memory was wanting; what was recorded is a front part of the store then.
-/// Any other run ends as without a record.
+/// Any other run ends as without a record. Who listens beside hears each event and each turn as in `run_plan`.
 pub fn run_recorded<
     K: Sink + Send,
     F: Sink + Send,
@@ -116,6 +118,7 @@ pub fn run_recorded<
         (writing_of K.Sink sink result.ran.sink) (writing_of F.Sink store result.store) result.left
         result.own result.outcome result.ran.status }
     ensures heard { IfSome result.left (HasHeardPlan B.heard result.report line.now) }
+    ensures turns { B.taken report [] → HasHeardTurns B.taken result.report result.left (is_unbegun result.own) }
     ensures unused { is_unbegun result.own ≡ true → host.new ≡ host.old }
 {
     run_at::<K, F, B, H, O, S, Brand, X>(rt, alloc, line, sink, store, report, host, around)

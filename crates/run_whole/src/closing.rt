@@ -1,16 +1,16 @@
 // The close of a run.
-ghost use Rattle.std.specs.Prelude.{◌≡◌, ◌≢◌, ◌<◌, ℕ, IfOk, IfErr, IfSome, IsSome, IsNone, None, length};
+ghost use Rattle.std.specs.Prelude.{◌≡◌, ◌≢◌, ◌<◌, ℕ, IfOk, IfErr, IfSome, IsSome, IsNone, None, count_by, length};
 ghost use Rattle.std.specs.List.{All, sum_by};
 ghost use Rattle.run_model.specs.Words.{times};
 ghost use Rattle.run_shared.specs.Receipts.{concatenated, receipt_numbers, StandsIn};
 ghost use Rattle.run_shared.specs.Closed.{IsLeft, IsLeftUnclosed, Refuses};
 ghost use Rattle.run_laws.specs.Course.{turns_of};
 ghost use Rattle.run_live.specs.Left.{HasToldSome, HasTakenSome};
-ghost use Rattle.run_whole.specs.Whole.{IsThird};
+ghost use Rattle.run_whole.specs.Whole.{ComesThird, IsThird, is_shutdown_turn, takes_shutdown};
 
 use crate::left::{CutOff, GivenUp};
 use run_capture::List;
-use run_events::{AskList, Reporter, RunOutcome};
+use run_events::{AskList, Reporter, RunOutcome, Signal, Turn};
 use run_live::{is_memory, report_left};
 use run_model::Entry;
 use run_shared::{CloseError, CloseKind, Closed, Receipt, Refusal, SharedRun, Unclosed};
@@ -134,13 +134,68 @@ pub(crate) fn close_run<L: Ledger, R: Reporter>(
     }
 }
 
+// Whether a turn is a signal by which a run is shut down.
+fn is_shutdown(turn: &Turn) -> bool
+    ensures { result ≡ is_shutdown_turn turn.now }
+{
+    match turn {
+        Turn::Signal { signal } => {
+            matches!(
+                signal,
+                Signal::Int | Signal::Hup | Signal::Term | Signal::Quit
+            )
+        }
+        _ => false,
+    }
+}
+
+// Whether an entry is of such a signal.
+#[tactic(auto, unfolding(crate::specs::Whole::takes_shutdown))]
+fn takes_shutdown(entry: &Entry) -> bool
+    ensures { result ≡ takes_shutdown entry.now }
+{
+    is_shutdown(&entry.turn)
+}
+
+// How many signals by which a run is shut down were taken.
+fn shutdowns(journal: &[Entry]) -> usize
+    ensures { result ≡ count_by takes_shutdown journal.now }
+{
+    let mut count = 0;
+    for entry in journal {
+        if takes_shutdown(entry) {
+            count += 1;
+        }
+    }
+    count
+}
+
+// What is left of a run that was cut off, if a shutdown signal was refused and two at least were taken.
+fn cut_off_at(journal: List<Entry>, asks: AskList, refusal: Refusal) -> Option<CutOff>
+    requires { IsThird refusal }
+    ensures same { IfSome result (λ c. (c.journal ≡ journal) × (c.asks ≡ asks)) }
+    ensures third { IfSome result (λ c. ComesThird c.journal c.refusal) }
+{
+    if is_shutdown(refusal.turn()) && shutdowns(journal.as_slice()) >= 2 {
+        return Some(CutOff {
+            journal,
+            asks,
+            refusal,
+        });
+    }
+    drop(journal);
+    drop(asks);
+    drop(refusal);
+    None
+}
+
 // A run that was closed with this outcome and given up, at a third signal if there is such a refusal and it isn't over.
 fn cut_off_closed<R: Reporter>(closed: Closed<R>, third: Option<Refusal>) -> GivenUp<R>
     requires { IfSome third IsThird }
     ensures report { result.report ≡ closed.report }
     ensures same { IfSome result.cut_off (λ c. (c.journal ≡ closed.journal) × (c.asks ≡ closed.asks)
         × (closed.outcome ≡ None)) }
-    ensures third { IfSome result.cut_off (λ c. IsThird c.refusal) }
+    ensures third { IfSome result.cut_off (λ c. ComesThird c.journal c.refusal) }
 {
     let Closed {
         journal,
@@ -153,11 +208,7 @@ fn cut_off_closed<R: Reporter>(closed: Closed<R>, third: Option<Refusal>) -> Giv
     match (third, outcome) {
         (Some(refusal), None) => GivenUp {
             report,
-            cut_off: Some(CutOff {
-                journal,
-                asks,
-                refusal,
-            }),
+            cut_off: cut_off_at(journal, asks, refusal),
         },
         _ => {
             drop(journal);
@@ -181,7 +232,7 @@ pub(crate) fn give_back<L: Ledger, R: Reporter>(
     ensures left { IfSome result.cut_off (λ c. IsLeft R.told result.report c.asks shared c.journal None) }
     ensures some_turns { HasTakenSome R.taken result.report }
     ensures turns { IfSome result.cut_off (λ c. R.taken result.report (turns_of c.journal)) }
-    ensures third { IfSome result.cut_off (λ c. IsThird c.refusal) }
+    ensures third { IfSome result.cut_off (λ c. ComesThird c.journal c.refusal) }
 {
     match shared.close(alloc, Vec::new(alloc), List::new()) {
         Ok(closed) => cut_off_closed(closed, third),

@@ -8,7 +8,7 @@ ghost use Rattle.run_shared.specs.Orders.{Delivers, IsOrderFault};
 ghost use Rattle.run_laws.specs.Course.{turns_of};
 ghost use Rattle.run_live.specs.Left.{HasToldSome, HasTakenSome};
 ghost use Rattle.run_whole.specs.Own.{IsListenerWork, IsTickerWork, AreAllKept};
-ghost use Rattle.run_whole.specs.Whole.{IsThird, handed, order_fault, receipts_error};
+ghost use Rattle.run_whole.specs.Whole.{ComesThird, handed, order_fault, receipts_error};
 
 use crate::closing::give_back;
 use crate::ending::finish;
@@ -76,7 +76,7 @@ where
     ensures given_up { IfErr result (λ g. HasToldSome R.told g.report) }
     ensures cut_off { IfErr result (λ g. IfSome g.cut_off
         (λ c. IsLeft R.told g.report c.asks shared c.journal None)) }
-    ensures third { IfErr result (λ g. IfSome g.cut_off (λ c. IsThird c.refusal)) }
+    ensures third { IfErr result (λ g. IfSome g.cut_off (λ c. ComesThird c.journal c.refusal)) }
     ensures turns { IfOk result (λ w. R.taken w.run.report (turns_of w.run.journal)) }
     ensures turns_given_up { IfErr result (λ g. HasTakenSome R.taken g.report) }
     ensures turns_cut_off { IfErr result (λ g. IfSome g.cut_off (λ c. R.taken g.report (turns_of c.journal))) }
@@ -143,7 +143,7 @@ where
     ensures given_up { IfErr result (λ g. HasToldSome R.told g.report) }
     ensures cut_off { IfErr result (λ g. IfSome g.cut_off
         (λ c. IsLeft R.told g.report c.asks runner c.journal None)) }
-    ensures third { IfErr result (λ g. IfSome g.cut_off (λ c. IsThird c.refusal)) }
+    ensures third { IfErr result (λ g. IfSome g.cut_off (λ c. ComesThird c.journal c.refusal)) }
     ensures turns { IfOk result (λ w. R.taken w.run.report (turns_of w.run.journal)) }
     ensures turns_given_up { IfErr result (λ g. HasTakenSome R.taken g.report) }
     ensures turns_cut_off { IfErr result (λ g. IfSome g.cut_off (λ c. R.taken g.report (turns_of c.journal))) }
@@ -219,7 +219,7 @@ where
     ensures given_up { IfErr result (λ g. HasToldSome R.told g.report) }
     ensures cut_off { IfErr result (λ g. IfSome g.cut_off
         (λ c. IsLeft R.told g.report c.asks runner c.journal None)) }
-    ensures third { IfErr result (λ g. IfSome g.cut_off (λ c. IsThird c.refusal)) }
+    ensures third { IfErr result (λ g. IfSome g.cut_off (λ c. ComesThird c.journal c.refusal)) }
     ensures turns { IfOk result (λ w. R.taken w.run.report (turns_of w.run.journal)) }
     ensures turns_given_up { IfErr result (λ g. HasTakenSome R.taken g.report) }
     ensures turns_cut_off { IfErr result (λ g. IfSome g.cut_off (λ c. R.taken g.report (turns_of c.journal))) }

@@ -15,7 +15,7 @@ use Rattle.run_output.specs.Told.{AreCounted, HasTold, event_lines}
 use Rattle.run_output.specs.declared.fault.Fault.TheVariants.{Words, Line, Plan as BadPlan, NotEnabled, ThirdSignal}
 use Rattle.run_output.specs.declared.fault.Fault.TheVariants.{Unfinished, Report, Read, Memory, TooLong}
 use Rattle.run_whole.specs.declared.left.CutOff.{CutOff}
-use Rattle.run_whole.specs.Whole.{IsThird}
+use Rattle.run_whole.specs.Whole.{ComesThird}
 use Rattle.run_cli.specs.Call.{Writing, then_writing, Writes}
 use Rattle.run_cli.specs.Lived.{HasWritten}
 use Rattle.run_cli.proofs.GivenUpLemmas.{marks_lines}
@@ -55,7 +55,7 @@ pub third_ends : {W T O S R : Type 0} (k : Relations W T O S)
     (c : CutOff) (ending : WholeEnding) → v.taken ≡ w.taken_after → v.faults ≡ w.faults_after
     → ((ys : List (ReporterEvent × Option Failed)) → tells report ys
     → HasTold w.taken w.taken_after w.faults w.faults_after n (event_lines ys))
-    → IsLeft tells report c.asks p c.journal None → IsThird c.refusal
+    → IsLeft tells report c.asks p c.journal None → ComesThird c.journal c.refusal
     → EndsAtThird v (ask_lines c.asks) (length c.journal) ending
     → IsWholeRunEnd k p (then_writing w v) (left_by ending (lefts.CutOff c)) ending
 third_ends k tells p w v n report c (ends.Fault (ThirdSignal at)) on from told left third wrote =

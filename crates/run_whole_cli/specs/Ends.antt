@@ -29,7 +29,7 @@ use Rattle.run_output.specs.declared.fault.Fault.TheVariants.{Unfinished, Report
 use Rattle.run_whole.specs.declared.left.Ended.{Ended}
 use Rattle.run_whole.specs.Own.{IsListenerWork, IsTickerWork, AreAllKept}
 use Rattle.run_whole.specs.declared.left.CutOff.{CutOff}
-use Rattle.run_whole.specs.Whole.{IsThird, handed, order_fault, receipts_error}
+use Rattle.run_whole.specs.Whole.{ComesThird, handed, order_fault, receipts_error}
 use Rattle.run_cli.specs.Call.{Writing, HasTaken, HasWriteFault, Writes}
 use Rattle.run_cli.specs.Ending.{IsFinished}
 use Rattle.run_cli.specs.Executed.{TookParts, WritesRun, report_ending}
@@ -101,11 +101,12 @@ WritesOrder p journal fault w =
     TookParts whole_form (past_of p journal)
     (ask_lines (asked (past_of p journal)) ++ line_bytes (order_text fault)) w
 
--- a run was cut off: its journal is legal, it isn't over, and it refused a third shutdown signal
+-- a run was cut off: its journal is legal, it isn't over, and after two shutdown signals at least it refused one as a
+-- third
 pub record IsCutOff (p : Settings) (c : CutOff) : Type 0 where
   pub legal : IsLegal p c.journal
   pub going : is_over (past_of p c.journal) ≡ false
-  pub third : IsThird c.refusal
+  pub third : ComesThird c.journal c.refusal
 
 -- of a run that was cut off the sink took the lines of its events, and of a part of one further turn's at most: each
 -- whole, or of one that was refused a front part; and its count of faults rose at each that was, and at no other. Then

@@ -4,7 +4,7 @@ ghost use Rattle.run_events.specs.declared.settings.Settings.{Settings};
 ghost use Rattle.run_laws.specs.Course.{turns_of};
 ghost use Rattle.run_shared.specs.Closed.{IsLeft};
 ghost use Rattle.run_live.specs.Left.{HasToldSome, HasTakenSome};
-ghost use Rattle.run_whole.specs.Whole.{IsThird};
+ghost use Rattle.run_whole.specs.Whole.{ComesThird};
 ghost use Rattle.run_cli.specs.Call.{writing_of};
 ghost use Rattle.run_whole_cli.specs.Relations.{relations};
 ghost use Rattle.run_whole_cli.specs.Ends.{IsWholeRunEnd};
@@ -102,7 +102,7 @@ fn finish_given_up<
     given_up: GivenUp<Both<TiedReporter<K, G>, B>>,
 ) -> (WholeEnded<K, WholeLeft<W, T, O, S>>, B)
     requires told { HasToldSome ⟦<Both<TiedReporter<K, G>, B> as Reporter>⟧.told given_up.report }
-    requires third { IfSome given_up.cut_off (λ c. IsThird c.refusal) }
+    requires third { IfSome given_up.cut_off (λ c. ComesThird c.journal c.refusal) }
     requires some_turns { HasTakenSome ⟦<Both<TiedReporter<K, G>, B> as Reporter>⟧.taken given_up.report }
     requires turns { IfSome given_up.cut_off
         (λ c. ⟦<Both<TiedReporter<K, G>, B> as Reporter>⟧.taken given_up.report (turns_of c.journal)) }
