@@ -1,4 +1,3 @@
-mod WordLemmas
 mod TurnLemmas
 mod SeenLemmas
 mod ScanLemmas

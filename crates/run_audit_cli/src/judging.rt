@@ -1,29 +1,13 @@
 // The verdict on what an input says.
-ghost use Rattle.std.specs.Prelude.{◌≡◌, ◌+◌, ◌<◌, ◌^◌, length};
-ghost use Rattle.run_cli.specs.Short.{fault_of_error};
+ghost use Rattle.std.specs.Prelude.{◌+◌, ◌<◌, ◌^◌, length};
 ghost use Rattle.run_audit_cli.specs.AuditJudged.{JudgesInput};
 
 use run_audit::audit;
 use run_audit_model::{AuditEvent, Verdict};
-use run_cli::{fault_of_plan, runner_of};
-use run_engine::TestRunnerExecuteErrors;
+use run_cli::{fault_of_error, fault_of_plan, runner_of};
 use run_input::Input;
 use run_output::Fault;
 use std::alloc::Global;
-use std::convert::Infallible;
-
-// The fault that an error of the engine is.
-fn fault_of(error: TestRunnerExecuteErrors<Infallible>) -> Fault
-    ensures { result ≡ fault_of_error error }
-{
-    match error {
-        TestRunnerExecuteErrors::Report(_) => Fault::Report,
-        TestRunnerExecuteErrors::NotEnabled { turn } => Fault::NotEnabled { turn },
-        TestRunnerExecuteErrors::ThirdSignal { turn } => Fault::ThirdSignal { turn },
-        TestRunnerExecuteErrors::Unfinished => Fault::Unfinished,
-        TestRunnerExecuteErrors::OutOfMemory => Fault::Memory,
-    }
-}
 
 /// The verdict on events by a plan and its turns, or why there is none.
 pub fn judge_input(alloc: Global, input: Input, events: &[AuditEvent]) -> Result<Verdict, Fault>
@@ -35,7 +19,7 @@ pub fn judge_input(alloc: Global, input: Input, events: &[AuditEvent]) -> Result
     match runner_of(alloc, keys, plan) {
         Ok(runner) => match audit(alloc, runner, turns.as_slice(), events) {
             Ok(verdict) => Ok(verdict),
-            Err(error) => Err(fault_of(error)),
+            Err(error) => Err(fault_of_error(error)),
         },
         Err(error) => Err(fault_of_plan(error)),
     }

@@ -1,5 +1,5 @@
 // The top call: all that the program does.
-ghost use Rattle.std.specs.Prelude.{◌≡◌, ◌↔◌, ◌∷◌, [], ◌<◌, ◌≤◌, ◌^◌, map, length, IfOk, IfErr, IsTrue, string_bytes};
+ghost use Rattle.std.specs.Prelude.{◌≡◌, ◌<◌, ◌≤◌, ◌^◌, map, length, IfOk, IfErr, string_bytes};
 ghost use Rattle.run_output.specs.declared.fault.Fault.TheVariants.{Words};
 ghost use Rattle.run_cli.specs.Call.{reading_of, writing_of};
 ghost use Rattle.run_audit_cli.specs.AuditCauses.{GetsAudited};
@@ -12,20 +12,10 @@ use crate::judging::judge_input;
 use crate::reading::{Said, read_audit_input};
 use run_audit_model::Verdict;
 use run_capture::{Sink, Source};
-use run_cli::{Ran, read_bytes};
+use run_cli::{Ran, is_word, read_bytes};
 use run_input::InputError;
 use run_output::Fault;
 use std::alloc::Global;
-
-// Whether the words are this one.
-fn is_word(words: &[String], name: &str) -> bool
-    ensures { IsTrue result ↔ (map (λ w. string_bytes w) words.now ≡ name.now ∷ []) }
-{
-    match words {
-        [word] => word.as_str() == name,
-        _ => false,
-    }
-}
 
 // The fault that an error of reading lines is.
 fn line_fault(error: InputError) -> Fault

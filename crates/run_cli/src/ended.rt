@@ -105,8 +105,8 @@ pub fn end_at_outcome<K: Sink>(alloc: Global, sink: K, asks: &[u8], outcome: Run
     }
 }
 
-// The fault that an error of the engine is.
-fn fault_of(error: TestRunnerExecuteErrors<Failed>) -> Fault
+/// The fault that an error of the engine is.
+pub fn fault_of_error<E: Drop>(error: TestRunnerExecuteErrors<E>) -> Fault
     ensures { result ≡ fault_of_error error }
 {
     match error {
@@ -130,7 +130,7 @@ pub fn finish<K: Sink>(
     match answer {
         Ok(outcome) => end_at_outcome(alloc, sink, asks, outcome),
         Err(error) => {
-            let fault = fault_of(error);
+            let fault = fault_of_error(error);
             end_at_fault(alloc, sink, asks, fault)
         }
     }

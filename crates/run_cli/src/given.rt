@@ -15,8 +15,8 @@ use run_output::Fault;
 use run_turn_reader::TurnLines;
 use std::alloc::Global;
 
-// Whether the words are this one.
-fn is_word(words: &[String], name: &str) -> bool
+/// Whether the words are this one.
+pub fn is_word(words: &[String], name: &str) -> bool
     ensures { IsTrue result ↔ (map (λ w. string_bytes w) words.now ≡ name.now ∷ []) }
 {
     match words {

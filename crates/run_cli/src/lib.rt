@@ -18,9 +18,11 @@ mod top;
 mod write;
 
 pub use command::Command;
-pub use ended::{Ended, end_at_fault, end_without_memory, finish, replay, status_of_outcome};
+pub use ended::{
+    Ended, end_at_fault, end_without_memory, fault_of_error, finish, replay, status_of_outcome,
+};
 pub use execution::{Executed, execute};
-pub use given::read_bytes;
+pub use given::{is_word, read_bytes};
 pub use live::{LiveEnding, fault_after, last_lines, open_fault, refusal_after, workers_of};
 pub use plan_line::{read_plan_line, runner_of};
 pub use receipts::{RefusalLines, write_refusal};
@@ -35,5 +37,5 @@ pub use run_live::Live;
 pub use run_output::{
     Fault, LineReporter, ask_line, event_line, fault_line, outcome_line, turn_line,
 };
-pub use top::{Ran, fault_of_plan, replay_input, run};
+pub use top::{Ran, fault_of_plan, replay_input, run, status_of_ending};
 pub use write::{WriteError, write_line, write_rest};

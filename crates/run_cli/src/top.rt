@@ -36,7 +36,8 @@ pub struct Ran<K> {
     pub sink: K,
 }
 
-fn status_of_ending(ending: Result<RunOutcome, Fault>) -> u8
+/// The status of an ending.
+pub fn status_of_ending(ending: Result<RunOutcome, Fault>) -> u8
     ensures { result ≡ ending_status ending }
 {
     match ending {

@@ -13,7 +13,7 @@ use Rattle.run_filter.specs.declared.bits.Bit.{Bit}
 use Rattle.run_filter.specs.Tree.{Tree, negation, either}
 use Rattle.run_filter.specs.Signs.{skip, or_sign, and_sign, not_sign}
 use Rattle.run_filter.specs.Grammar.{Left, Wrong, TreeRead, TextRead, and_then, opens}
-use Rattle.run_filter.specs.Grammar.{closed, bit_of, bit_bytes, with_front, text_of}
+use Rattle.run_filter.specs.Grammar.{closed, bit_of, bit_bytes, unended_fault, with_front, text_of}
 use Rattle.run_filter.specs.Grammar.{joined, and_chain, term, or_chain, filter, after_not, operand}
 use Rattle.run_filter.specs.Grammar.{predicate}
 use Rattle.run_filter.specs.Reads.{left_at, ReadsTree, StepsAlong}
@@ -56,7 +56,7 @@ text_of-bit (suc n) sign t bit l h =
     let e : suc n - 1 ≡ n = omega arith in
     rw h (rw e refl)
 
-pub text_of-none : (n : ℕ) (sign : Sign) (t : List ℕ) → n ≡ 0 → text_of n sign t ≡ Err (faults.ExpectedClose, t)
+pub text_of-none : (n : ℕ) (sign : Sign) (t : List ℕ) → n ≡ 0 → text_of n sign t ≡ Err (unended_fault sign, t)
 unfolding text_of
 text_of-none n sign t h = rw h refl
 
@@ -257,7 +257,7 @@ text_goes_on front later n sign t u bit whole l h f d w =
     w ∙ rw e (with_front-twice front (bit_bytes bit) (text_of (n - 1) sign (drop bit.taken t)) ∙ rw (f, d) refl)
 
 pub text_runs_out : (front : List ℕ) (n : ℕ) (sign : Sign) (t : List ℕ) (whole : TextRead) → n ≡ 0
-    → whole ≡ with_front front (text_of n sign t) → whole ≡ Err (faults.ExpectedClose, t)
+    → whole ≡ with_front front (text_of n sign t) → whole ≡ Err (unended_fault sign, t)
 text_runs_out front n sign t whole h w = let e = text_of-none n sign t h in w ∙ rw e refl
 
 -- ---- places past others

@@ -152,9 +152,14 @@ text_step others text (Err f) = Err (f, text)
 text_step others text (Ok None) = Ok ([], text)
 text_step others text (Ok (Some bit)) = with_front (bit_bytes bit) (others (drop bit.taken text))
 
+-- what is wrong with a text that doesn't end
+abbrev pub unended_fault : Sign → FilterFault
+unended_fault signs.Regex = faults.OpenRegex
+unended_fault _ = faults.ExpectedClose
+
 -- the text, of no more bits than this
 unfoldable pub text_of : ℕ → Sign → List ℕ → TextRead
-text_of zero sign text = Err (faults.ExpectedClose, text)
+text_of zero sign text = Err (unended_fault sign, text)
 text_of (suc n) sign text = text_step (text_of n sign) text (bit_of sign text)
 
 -- ---- predicates

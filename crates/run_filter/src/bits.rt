@@ -1,7 +1,7 @@
 // The bits of the text of a predicate: bytes that stand for themselves, and escapes.
 ghost use Rattle.std.specs.Prelude.{◌≡◌, ◌++◌, OnOk, encode_utf8};
 ghost use Rattle.run_filter.specs.Grammar.{byte_bit, escaped_byte, escape_bit, plain_bit, text_bit, regex_escape};
-ghost use Rattle.run_filter.specs.Grammar.{regex_bit, bit_bytes, bit_of};
+ghost use Rattle.run_filter.specs.Grammar.{regex_bit, bit_bytes, bit_of, unended_fault};
 
 use crate::escapes::numbered_char;
 use crate::fault::FilterFault;
@@ -126,6 +126,16 @@ pub(crate) fn bit_of(sign: Sign, text: &[u8]) -> Result<Option<Bit>, FilterFault
         Sign::Contains | Sign::Equals => text_bit(false, text),
         Sign::Glob => text_bit(true, text),
         Sign::Regex => regex_bit(text),
+    }
+}
+
+/// What is wrong with a text that doesn't end.
+pub(crate) fn unended_fault(sign: Sign) -> FilterFault
+    ensures { result ≡ unended_fault sign }
+{
+    match sign {
+        Sign::Regex => FilterFault::OpenRegex,
+        Sign::Contains | Sign::Equals | Sign::Glob => FilterFault::ExpectedClose,
     }
 }
 

@@ -9,7 +9,7 @@ ghost use Rattle.run_filter.specs.GlobText.{glob_of};
 ghost use Rattle.run_filter.specs.Tree.{tree_of};
 ghost use Rattle.run_filter.specs.Reads.{left_at, ReadsTree, ReadsText, MakesMatcher};
 
-use crate::bits::{bit_of, push_bit};
+use crate::bits::{bit_of, push_bit, unended_fault};
 use crate::facts::Subject;
 use crate::fault::{FilterError, FilterFault};
 use crate::filter::{Filter, Matcher};
@@ -62,7 +62,7 @@ fn text_of(
             }
         }
     }
-    let fault = FilterFault::ExpectedClose;
+    let fault = unended_fault(sign);
     Err(FilterError::Wrong { place, fault })
 }
 

@@ -16,6 +16,7 @@ pub struct KeptSource<S> {
 }
 
 impl<S: Source> KeptSource<S> {
+    /// What this source gives, with nothing remembered yet.
     pub fn new(alloc: Global, source: S) -> KeptSource<S> {
         KeptSource {
             source,

@@ -52,6 +52,7 @@ pub struct LastLine<K> {
 }
 
 impl<K: Sink> LastLine<K> {
+    /// This sink, with no line yet.
     pub fn new(alloc: Global, sink: K) -> LastLine<K> {
         let bytes = Vec::new(alloc);
         LastLine {

@@ -5,6 +5,5 @@ mod ToldLemmas
 mod RunLemmas
 mod SaidLemmas
 mod CauseLemmas
-mod WordLemmas
 mod NextLemmas
 mod NextCauseLemmas

@@ -19,7 +19,7 @@ use Rattle.run_jobs.specs.Jobs.{Batch}
 use Rattle.run_jobs.specs.States.{Wave, states_after}
 use Rattle.run_jobs.specs.WavePlan.{plan_of_jobs, test_of_job, tests_of_jobs, wave_builder, wave_of, wave_with}
 use Rattle.run_jobs.specs.Waves.{ComesTo, ended_cancelled, is_next_due, next_jobs, wants_memory}
-use Rattle.run_wave_line.specs.WaveLine.{plain_test, wave_keys, wave_plan}
+use Rattle.run_wave_line.specs.WaveLine.{plain_test, wave_keys, wave_plan, wave_text}
 use Rattle.run_capture.specs.declared.memory.OutOfMemory.{OutOfMemory}
 use Rattle.run_output.specs.declared.fault.Fault.TheVariants as plain
 use Rattle.run_jobs_cli.specs.declared.fault.JobsFault.{JobsFault}
@@ -71,13 +71,14 @@ due_none batch waves false due is = due
 
 says_wave : (batch : Batch) (waves : List Wave) (builder : Builder) (plan : Plan) (line : List ℕ)
     → builder ≡ wave_builder batch.threads → plan ≡ plan_of_jobs batch (next_jobs batch waves)
-    → refusal_of builder plan ≡ None
+    → refusal_of builder plan ≡ None → line ≡ wave_text batch.threads plan.head.run_id plan.tests
     → plan_line_of line ≡ Some (wave_keys batch.threads, wave_plan plan.head.run_id plan.tests)
     → SaysWave batch waves line
-says_wave batch waves builder plan line built is accepted reads =
+says_wave batch waves builder plan line built is accepted text reads =
     let ks = next_jobs batch waves in record {
       keys = wave_keys batch.threads;
       plan = plan_of_jobs batch ks;
+      is = text ∙ ap (λ (p : Plan). wave_text batch.threads p.head.run_id p.tests) is;
       reads = reads
           ∙ ap (λ (p : Plan). Some (wave_keys batch.threads, wave_plan p.head.run_id p.tests)) is
           ∙ ap (λ p. Some (wave_keys batch.threads, p)) (plain_plan batch ks);
@@ -87,16 +88,17 @@ says_wave batch waves builder plan line built is accepted reads =
 
 pub next_found : (batch : Batch) (lists : List (List Turn)) (builder : Builder) (plan : Plan) (line : List ℕ)
     → PlansNext {E = Infallible} batch lists (Ok (Some (builder, plan))) → IsPlanTaken (builder, plan)
+    → line ≡ wave_text batch.threads plan.head.run_id plan.tests
     → plan_line_of line ≡ Some (wave_keys batch.threads, wave_plan plan.head.run_id plan.tests)
     → FindsNext batch lists (Ok (line, 0))
-next_found batch lists builder plan line plans runs reads =
+next_found batch lists builder plan line plans runs text reads =
     let waves = plans.0 in
     let due = due_some batch waves (builder, plan) (is_next_due batch waves) refl plans.3 in
     let is = wave_is batch (next_jobs batch waves) builder plan due.1 in (
       waves,
       plans.1,
       plans.2,
-      inl (due.0, says_wave batch waves builder plan line is.0 is.1 runs.1 reads, refl),
+      inl (due.0, says_wave batch waves builder plan line is.0 is.1 runs.1 text reads, refl),
     )
 
 pub next_none : (batch : Batch) (lists : List (List Turn)) → PlansNext {E = Infallible} batch lists (Ok None)
@@ -133,17 +135,19 @@ next_fault batch lists errors.OutOfMemory plans = inl refl
 pub found_next : (batch : Batch) (lists : List (List Turn)) (builder : Builder) (plan : Plan) (threads : ℕ)
     (line : Result (List ℕ) OutOfMemory) (found : Result (List ℕ × ℕ) JobsFault)
     → PlansNext {E = Infallible} batch lists (Ok (Some (builder, plan))) → IsPlanTaken (builder, plan)
-    → threads ≡ batch.threads
+    → threads ≡ batch.threads → IfOk line (λ t. t ≡ wave_text threads plan.head.run_id plan.tests)
     → IfOk line (λ t. plan_line_of t ≡ Some (wave_keys threads, wave_plan plan.head.run_id plan.tests))
     → IfOk found (λ f. (line ≡ Ok f.0) × (f.1 ≡ 0)) → IfErr found (λ fault. fault ≡ faults.Plain plain.Memory)
     → FindsNext batch lists found
-found_next batch lists builder plan threads line (Ok (t, n)) plans runs is reads ok err =
+found_next batch lists builder plan threads line (Ok (t, n)) plans runs is text reads ok err =
     subst (λ k. FindsNext batch lists (Ok (t, k))) (sym ok.1)
     (next_found batch lists builder plan t plans runs
+    (subst (λ m. t ≡ wave_text m plan.head.run_id plan.tests) is
+    (subst (λ l. IfOk l (λ u. u ≡ wave_text threads plan.head.run_id plan.tests)) ok.0 text))
     (subst (λ m. plan_line_of t ≡ Some (wave_keys m, wave_plan plan.head.run_id plan.tests)) is
     (subst (λ l. IfOk l (λ u. plan_line_of u ≡ Some (wave_keys threads, wave_plan plan.head.run_id plan.tests))) ok.0
     reads)))
-found_next batch lists builder plan threads line (Err fault) plans runs is reads ok err = inl err
+found_next batch lists builder plan threads line (Err fault) plans runs is text reads ok err = inl err
 
 pub found_none : (batch : Batch) (lists : List (List Turn)) (line : Result (List ℕ) OutOfMemory)
     (found : Result (List ℕ × ℕ) JobsFault) → PlansNext {E = Infallible} batch lists (Ok None)

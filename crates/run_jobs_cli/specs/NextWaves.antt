@@ -14,6 +14,7 @@ use Rattle.run_jobs.specs.declared.waves_error.WavesError.TheVariants as errors
 use Rattle.run_jobs.specs.Jobs.{Batch}
 use Rattle.run_jobs.specs.States.{Wave}
 use Rattle.run_jobs.specs.Waves.{ComesTo, HaveRun, is_next_due, next_settings}
+use Rattle.run_wave_line.specs.WaveLine.{wave_text}
 use Rattle.run_cli.specs.Call.{Reading, Writing, HasTaken, HasTakenFront, HasWriteFault}
 use Rattle.run_cli.specs.Plans.{plan_refusal, settings_for}
 use Rattle.run_cli.specs.Short.{IsShort}
@@ -28,6 +29,7 @@ use Rattle.run_jobs_cli.specs.RunsJobs.{waves_fault}
 pub record SaysWave (batch : Batch) (waves : List Wave) (line : List ℕ) : Type 0 where
   pub keys : RunnerKeys
   pub plan : Plan
+  pub is : line ≡ wave_text batch.threads plan.head.run_id plan.tests
   pub reads : plan_line_of line ≡ Some (keys, plan)
   pub accepted : plan_refusal keys plan ≡ None
   pub settings : settings_for keys plan ≡ next_settings batch waves

@@ -1,5 +1,5 @@
 // The top call: all that the program does.
-ghost use Rattle.std.specs.Prelude.{◌≡◌, ◌↔◌, ◌≤◌, ◌<◌, ◌^◌, ◌∷◌, [], length, map, IfOk, IfErr, IsTrue, string_bytes};
+ghost use Rattle.std.specs.Prelude.{◌≡◌, ◌≤◌, ◌<◌, ◌^◌, [], length, map, IfOk, IfErr, string_bytes};
 ghost use Rattle.std.specs.List.{All};
 ghost use Rattle.run_input.specs.Lines.{lines_of};
 ghost use Rattle.run_output.specs.declared.fault.Fault.TheVariants.{Words};
@@ -16,22 +16,12 @@ use crate::jobs_line::JobsLine;
 use crate::runs::run_lists;
 use crate::wave_lines::read_jobs_input;
 use run_capture::{List, Sink, Source};
-use run_cli::{Ran, read_bytes};
+use run_cli::{Ran, is_word, read_bytes};
 use run_events::Turn;
 use run_input::InputError;
 use run_jobs::{Jobs, JobsError};
 use run_output::Fault;
 use std::alloc::Global;
-
-// Whether the words are this one.
-fn is_word(words: &[String], name: &str) -> bool
-    ensures { IsTrue result ↔ (map (λ w. string_bytes w) words.now ≡ name.now ∷ []) }
-{
-    match words {
-        [word] => word.as_str() == name,
-        _ => false,
-    }
-}
 
 // The fault that a refusal of jobs is.
 fn refusal_fault(error: JobsError) -> JobsFault

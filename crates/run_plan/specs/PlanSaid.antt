@@ -19,8 +19,9 @@ fits_plan plan =
 abbrev pub runs_any : SaidPlan → Bool
 runs_any plan = list_any (λ (test : PlanTest). is_none test.skip) plan.tests
 
--- a line of at most 16,777,216 bytes that is read as the plan, of which some test runs
+-- the line of the plan, of at most 16,777,216 bytes, which is read as the plan, and of which some test runs
 pub record IsLineOfPlan (text : List ℕ) (plan : SaidPlan) : Type 0 where
+  pub is : text ≡ plan_text plan
   pub says : plan_line_of text ≡ Some (said_keys plan, said_plan plan)
   pub short : length text ≤ 16777216
   pub runs : runs_any plan ≡ true

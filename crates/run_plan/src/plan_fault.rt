@@ -60,7 +60,7 @@ impl From<OutOfMemory> for PlanFault {
 
 impl PlanFault {
     /// The status of a program that ends by it: 104 for the list, 96 for the project's file, 92 for the version that it
-    /// asks for, 94 for a filter of the words, 4 where no test is to be run, 12 for what is too large, 71 for want of
+    /// asks for, 94 for a filter of the words, 4 where no test is to be run, 12 for what is too large, 11 for want of
     /// memory.
     pub fn status(&self) -> u8
         ensures { result ≡ plan_status self.now }

@@ -69,6 +69,7 @@ impl<K: Sink> BarSink<K> {
         ensures taken { OnOk result (Takes (K.taken self.old.sink) (K.taken self.new.sink) (erased self.old.bar)) }
         ensures bar { self.new.bar ≡ None }
         ensures faults { self.new.faults ≡ self.old.faults }
+        ensures inner { CountsFault (K.faults self.old.sink) (K.faults self.new.sink) result }
     {
         let bar = self.bar;
         self.bar = None;
@@ -98,6 +99,7 @@ impl<K: Sink> BarSink<K> {
             (erased self.old.bar ++ take n piece.now)) }
         ensures bar { self.new.bar ≡ None }
         ensures faults { self.new.faults ≡ self.old.faults }
+        ensures inner { CountsFault (K.faults self.old.sink) (K.faults self.new.sink) result }
     {
         self.clear()?;
         self.sink.write(piece)
@@ -122,7 +124,7 @@ impl<K: Sink> Sink for BarSink<K> {
 
     ghost faults = { λ s. s.faults };
 
-    /// Erases the bar, and writes a front part of a piece.
+    /// Erases the bar, and writes a front part of a piece. It fails exactly if its own sink did (`inner`).
     fn write(&mut self, piece: &[u8]) -> Result<usize, Failed>
         ensures within { IfOk result (λ n. n ≤ length piece.now) }
         ensures some { IfOk result (λ n. 0 < length piece.now → 0 < n) }
@@ -133,6 +135,7 @@ impl<K: Sink> Sink for BarSink<K> {
         ensures behind { IfOk result (λ n. Takes (K.taken self.old.sink) (K.taken self.new.sink)
             (erased self.old.bar ++ take n piece.now)) }
         ensures bar { self.new.bar ≡ None }
+        ensures inner { CountsFault (K.faults self.old.sink) (K.faults self.new.sink) result }
     {
         match self.write_behind(piece) {
             Ok(written) => Ok(written),

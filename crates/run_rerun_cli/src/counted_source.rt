@@ -6,7 +6,7 @@ ghost use Rattle.run_rerun_cli.specs.Counted.{counted_faults, counted_left};
 
 use run_capture::{Failed, Source};
 
-/// A source that counts how often it has failed.
+/// A source that counts how often it has failed: it fails exactly if its own source did (`inner`).
 #[derive(Drop)]
 pub struct CountedSource<S> {
     inner: S,
@@ -42,6 +42,7 @@ impl<S: Source> Source for CountedSource<S> {
         ensures end { IfOk result (λ n. 0 < length buf.new → n ≡ 0 → AtEnd (counted_left S.left self.new)) }
         ensures err { OnErr result (counted_left S.left self.new ≡ counted_left S.left self.old) }
         ensures fault { CountsFault (counted_faults self.old) (counted_faults self.new) result }
+        ensures inner { CountsFault (S.faults self.old.inner) (S.faults self.new.inner) result }
     {
         match self.inner.read(buf) {
             Ok(count) => Ok(count),

@@ -128,55 +128,31 @@ fn turn_line(alloc: Global, front: &str, store: u64, turn: u64) -> Mem<Text>
     numbered_twice(alloc, front, store, ",\"turn\":", turn, "}")
 }
 
+const NOT_ENABLED: &str = "{\"fault\":\"not-enabled\",\"status\":6,\"store\":";
+
+const THIRD_SIGNAL: &str = "{\"fault\":\"third-signal\",\"status\":7,\"store\":";
+
+const READ: &str = "{\"fault\":\"read\",\"status\":10,\"store\":";
+
+const TOO_LONG: &str = "{\"fault\":\"too-long\",\"status\":12,\"store\":";
+
+const TORN: &str = "{\"fault\":\"torn\",\"status\":14,\"store\":";
+
+const BAD: &str = "{\"fault\":\"bad\",\"record\":";
+
+const BAD_STORE: &str = ",\"status\":15,\"store\":";
+
 /// The line of a fault of the store at this place of a chain, from 0, without its line feed: its keys in byte order.
 pub fn rerun_fault_line(alloc: Global, store: u64, fault: RerunFault) -> Mem<Text>
     ensures { IfOk result (λ t. t ≡ rerun_fault_text store fault) }
 {
     match fault {
         RerunFault::Plan(plan) => plan_line(alloc, store, plan),
-        RerunFault::NotEnabled { turn } => turn_line(
-            alloc,
-            "{\"fault\":\"not-enabled\",\"status\":6,\"store\":",
-            store,
-            turn,
-        ),
-        RerunFault::ThirdSignal { turn } => turn_line(
-            alloc,
-            "{\"fault\":\"third-signal\",\"status\":7,\"store\":",
-            store,
-            turn,
-        ),
-        RerunFault::Read => {
-            numbered(
-                alloc,
-                "{\"fault\":\"read\",\"status\":10,\"store\":",
-                store,
-                "}",
-            )
-        }
-        RerunFault::TooLong => {
-            numbered(
-                alloc,
-                "{\"fault\":\"too-long\",\"status\":12,\"store\":",
-                store,
-                "}",
-            )
-        }
-        RerunFault::Torn => {
-            numbered(
-                alloc,
-                "{\"fault\":\"torn\",\"status\":14,\"store\":",
-                store,
-                "}",
-            )
-        }
-        RerunFault::Bad { record } => numbered_twice(
-            alloc,
-            "{\"fault\":\"bad\",\"record\":",
-            record,
-            ",\"status\":15,\"store\":",
-            store,
-            "}",
-        ),
+        RerunFault::NotEnabled { turn } => turn_line(alloc, NOT_ENABLED, store, turn),
+        RerunFault::ThirdSignal { turn } => turn_line(alloc, THIRD_SIGNAL, store, turn),
+        RerunFault::Read => numbered(alloc, READ, store, "}"),
+        RerunFault::TooLong => numbered(alloc, TOO_LONG, store, "}"),
+        RerunFault::Torn => numbered(alloc, TORN, store, "}"),
+        RerunFault::Bad { record } => numbered_twice(alloc, BAD, record, BAD_STORE, store, "}"),
     }
 }

@@ -133,7 +133,7 @@ pub struct Showed<S, K> {
 }
 
 /// Reads the lines of a run from a source, and writes the report of the events that they tell to a sink. Lines of asks
-/// are passed over, and nothing is read behind the run's last line. Where the sink fails, or memory is wanting to the
+/// are passed over, and no line is read behind the run's last one. Where the sink fails, or memory is wanting to the
 /// report, the lines are read on, and nothing more is written.
 pub fn show<S: Source, K: Sink>(
     alloc: Global,

@@ -6,4 +6,3 @@ mod PlayCauses
 mod TornCauses
 mod PlayedCauses
 mod RecordedLemmas
-mod WordLemmas

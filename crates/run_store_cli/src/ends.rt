@@ -2,28 +2,14 @@
 ghost use Rattle.std.specs.Prelude.{◌≡◌, ◌++◌, OnOk, OnErr};
 ghost use Rattle.run_capture.specs.Bytes.{Takes};
 ghost use Rattle.run_cli.specs.Call.{writing_of, TakesFront};
-ghost use Rattle.run_cli.specs.Text.{ending_status};
 ghost use Rattle.run_cli.specs.Write.{CountsWrite};
 ghost use Rattle.run_store_cli.specs.Ends.{EndsSo, EndsAtStore, store_fault_only};
 
 use run_capture::Sink;
-use run_cli::{
-    Ended, Ran, WriteError, end_at_fault, end_without_memory, status_of_outcome, write_rest,
-};
-use run_events::RunOutcome;
+use run_cli::{Ended, Ran, WriteError, end_at_fault, end_without_memory, write_rest};
 use run_output::Fault;
 use run_store_io::{StoreFault, store_fault_line};
 use std::alloc::Global;
-
-/// The status of an ending.
-pub fn status_of(ending: Result<RunOutcome, Fault>) -> u8
-    ensures { result ≡ ending_status ending }
-{
-    match ending {
-        Ok(outcome) => status_of_outcome(outcome),
-        Err(fault) => fault.status(),
-    }
-}
 
 /// Writes the line of a fault, and ends with its status.
 pub fn end_at<K: Sink>(alloc: Global, sink: K, fault: Fault) -> Ran<K>

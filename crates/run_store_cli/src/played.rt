@@ -5,10 +5,10 @@ ghost use Rattle.run_cli.specs.Call.{Reading, reading_of, writing_of};
 ghost use Rattle.run_store_cli.specs.Causes.{GetsPlayed};
 ghost use Rattle.run_store_cli.specs.Plays.{GivesStore, PlaysInput, PlaysRead, PlaysSo};
 
-use crate::ends::{end_at, end_at_store, status_of};
+use crate::ends::{end_at, end_at_store};
 use crate::torn::play_torn;
 use run_capture::{Sink, Source};
-use run_cli::{Command, Ended, Ran, replay_input};
+use run_cli::{Command, Ended, Ran, replay_input, status_of_ending};
 use run_input::{Input, read_plan_line};
 use run_output::Fault;
 use run_store_io::{StoreError, StoreFault, Stored, read_store};
@@ -22,7 +22,7 @@ fn play_whole<K: Sink>(alloc: Global, input: Input, sink: K) -> Ran<K>
 {
     let Ended { ending, sink } = replay_input(alloc, Command::Replay, input, sink);
     Ran {
-        status: status_of(ending),
+        status: status_of_ending(ending),
         sink,
     }
 }

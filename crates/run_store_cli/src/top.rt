@@ -1,5 +1,5 @@
 // The top call: all that the program does.
-ghost use Rattle.std.specs.Prelude.{◌≡◌, ◌↔◌, ◌∷◌, [], map, IsTrue, string_bytes};
+ghost use Rattle.std.specs.Prelude.{◌≡◌, map, string_bytes};
 ghost use Rattle.run_output.specs.declared.fault.Fault.TheVariants.{Words};
 ghost use Rattle.run_cli.specs.Call.{reading_of, writing_of};
 ghost use Rattle.run_store_cli.specs.Causes.{GetsPlayed, GetsRecorded};
@@ -12,19 +12,9 @@ use crate::ends::end_at;
 use crate::played::play;
 use crate::recorded::record;
 use run_capture::{Sink, Source};
-use run_cli::Ran;
+use run_cli::{Ran, is_word};
 use run_output::Fault;
 use std::alloc::Global;
-
-// Whether the words are this one.
-fn is_word(words: &[String], name: &str) -> bool
-    ensures { IsTrue result ↔ (map (λ w. string_bytes w) words.now ≡ name.now ∷ []) }
-{
-    match words {
-        [word] => word.as_str() == name,
-        _ => false,
-    }
-}
 
 /// Does all that the program does: `record` reads the input of a replay and writes its store; `play` reads a store and
 /// writes what a replay of its plan line and turns writes. Other words have status 2, and then nothing is read.

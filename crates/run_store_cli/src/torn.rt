@@ -3,9 +3,12 @@ ghost use Rattle.std.specs.Prelude.{◌≡◌, ◌+◌, ◌<◌, ◌^◌, length
 ghost use Rattle.run_cli.specs.Call.{writing_of};
 ghost use Rattle.run_store_cli.specs.Torn.{FinishesTorn, IsTornEnd, IsTornInput, stop_of};
 
-use crate::ends::{end_at, end_at_store, status_of};
+use crate::ends::{end_at, end_at_store};
 use run_capture::{Failed, Sink};
-use run_cli::{Command, Ended, Executed, Ran, end_at_fault, execute, fault_of_plan, runner_of};
+use run_cli::{
+    Command, Ended, Executed, Ran, end_at_fault, execute, fault_of_plan, runner_of,
+    status_of_ending,
+};
 use run_engine::{TestRunner, TestRunnerExecuteErrors};
 use run_events::{RunOutcome, Turn};
 use run_input::Input;
@@ -43,7 +46,7 @@ fn finish_torn<K: Sink>(
         Some(fault) => {
             let Ended { ending, sink } = end_at_fault(alloc, sink, asks, fault);
             Ran {
-                status: status_of(ending),
+                status: status_of_ending(ending),
                 sink,
             }
         }

@@ -9,5 +9,5 @@ returns-in-Ok c =
     let error = c.in-Err-audit.error in
     let says = subst (λ turns. SaysAudit c.in-Ok.runner turns c.args.events.now (Err error)) c.as_slice.ensures
     c.in-Err-audit.ensures.says in
-    rw c.fault_of.ensures
+    rw c.fault_of_error.ensures
     (runs_stopped input.keys input.plan c.in-Ok.runner input.turns c.args.events.now error c.in-Ok.ensures says)

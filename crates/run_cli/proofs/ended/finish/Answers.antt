@@ -18,4 +18,4 @@ returns-in-Err g c = λ form p turns w on from x.
     let v = writing_of g.K.Sink c.args.sink end.result.sink in
     error_ends form p turns w v c.args.asks.now c.in-Err.error end.result.ending on from
     (subst (IsAnswered form p turns w c.args.asks.now) c.in-Err.is x)
-    (subst (λ f. EndsAtFault v c.args.asks.now f end.result.ending) c.fault_of-fault.ensures end.ensures)
+    (subst (λ f. EndsAtFault v c.args.asks.now f end.result.ending) c.fault_of_error-fault.ensures end.ensures)

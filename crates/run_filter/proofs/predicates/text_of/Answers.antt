@@ -37,6 +37,7 @@ loop-fuel-preserved c =
 
 pub returns : goal.returns
 returns c = (
-  text_runs_out c.loop-fuel.bytes c.loop-fuel.fuel c.args.sign _ _ (omega arith) c.loop-fuel.invariant.read,
+  rw c.unended_fault-fault.ensures
+      (text_runs_out c.loop-fuel.bytes c.loop-fuel.fuel c.args.sign _ _ (omega arith) c.loop-fuel.invariant.read),
   c.loop-fuel.invariant.end,
 )

@@ -14,7 +14,7 @@ returns-in-Ok-Some c =
     found_next batch lists c.in-Ok-Some.field-0-0-0 plan c.threads.result c.wave_line.result c.found.result
     (subst (λ o. PlansNext {E = Infallible} batch lists (Ok o)) c.in-Ok-Some.field-0-is c.in-Ok-Some.ensures.plans)
     (subst (λ o. IfSome o IsPlanTaken) c.in-Ok-Some.field-0-is c.in-Ok-Some.ensures.runnable) c.threads.ensures
-    c.wave_line.ensures.says c.found.ensures.ok c.found.ensures.err
+    c.wave_line.ensures.text c.wave_line.ensures.says c.found.ensures.ok c.found.ensures.err
 
 pub returns-in-Ok-None : goal.returns-in-Ok-None
 returns-in-Ok-None c =

@@ -14,5 +14,5 @@ pub returns-in-Some : goal.returns-in-Some
 returns-in-Some g c = λ p turns w on from is x.
     let end = c.end_at_fault-ending in
     let v = writing_of g.K.Sink c.args.sink end.result.sink in
-    stopped_after p turns w v c.args.asks.now c.args.answer c.in-Some.fault end.result.ending c.status_of.result
-    (sym c.stop_of.ensures ∙ c.in-Some.is) on from x end.ensures c.status_of.ensures
+    stopped_after p turns w v c.args.asks.now c.args.answer c.in-Some.fault end.result.ending c.status_of_ending.result
+    (sym c.stop_of.ensures ∙ c.in-Some.is) on from x end.ensures c.status_of_ending.ensures
